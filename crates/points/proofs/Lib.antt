@@ -1,0 +1,4 @@
+pub mod Causes
+pub mod Claims
+pub mod Hierarchy
+pub mod Points
