@@ -1,0 +1,5 @@
+-- Lemmas that several proofs share.
+mod Pigeon
+mod Changes
+mod Once
+mod States
