@@ -1,0 +1,2 @@
+-- The lemmas on cursors.
+pub mod Cursors
