@@ -1,0 +1,3 @@
+// What the program `integrate` prints for an input.
+pub mod lowest;
+pub mod report;
