@@ -1,0 +1,2 @@
+-- The modulus of the kind.
+pub mod Million
