@@ -1,6 +1,9 @@
 // The making of a grid.
 ghost use mathlib.Core.Path.{_≡_};
-ghost use Rattle.grid.specs.Making.{make-causes};
+ghost use mathlib.Core.List.{[]};
+ghost use Rattle.grid.specs.Making.{make-causes, made-dims, made-room};
+ghost use Rattle.store.specs.Contents.{items, capacity};
+ghost use Rattle.store.specs.Memory.{places, lookups};
 ghost use Rattle.points.specs.Refusals.{refusal-of, first};
 ghost use Rattle.std.specs.Vec.{made};
 use crate::grid::Grid;

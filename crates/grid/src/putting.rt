@@ -1,4 +1,8 @@
 // Points put in by a reader.
+ghost use mathlib.Core.Path.{_≡_};
+ghost use lib.Dec.{eqb};
+ghost use lib.ListN.{length};
+ghost use Rattle.store.specs.Contents.{items};
 use crate::grid::Grid;
 use crate::record::Entered;
 use crate::record::Record;

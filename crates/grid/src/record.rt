@@ -1,4 +1,6 @@
 // What a grid keeps of a point.
+ghost use mathlib.Core.Path.{_≡_};
+ghost use Rattle.grid.specs.declared.record.Record.the-variants.{Out};
 
 /// A point in: its sample, and its surplus, which is computed when it comes in.
 #[derive(Clone, Copy)]

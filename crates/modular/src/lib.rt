@@ -2,6 +2,7 @@
 ghost use Rattle.kinds.specs.Residues.{class, residues, whole-residue};
 ghost use Rattle.modular.specs.Million.{million};
 use kinds::kind::Kind;
+
 #[cfg(test)]
 mod tests;
 
@@ -60,7 +61,11 @@ pub impl Kind for Modular as ModularKind {
         if magnitude > LARGEST {
             return None;
         }
-        let count = if n < 0 { MODULUS - magnitude } else { magnitude };
+        let count = if n < 0 {
+            MODULUS - magnitude
+        } else {
+            magnitude
+        };
         Some(Modular { count })
     }
 

@@ -17,7 +17,8 @@ use std::test::*;
 use store::Entry;
 use store::Store;
 
-const TEXT: &[u8] = b"(grid 1)\n(unit kelvin)\n(point (64) 8)\n(point (32) 5)\n(point (96) 7)\n(point (16) 4)\n(point (48) 7)\n(end)\n";
+const TEXT: &[u8] =
+    b"(grid 1)\n(unit kelvin)\n(point (64) 8)\n(point (32) 5)\n(point (96) 7)\n(point (16) 4)\n(point (48) 7)\n(end)\n";
 
 // 21 / 4 is 250,006 modulo 1,000,003, since four times that is 1,000,024.
 #[test]
