@@ -7,9 +7,10 @@ ghost use Rattle.kinds.specs.Integers.{integers, whole-count};
 use super::kind::Kind;
 use super::limits;
 
-// how many counts make 1: 2^28
+/// How many counts make 1: 2^28
 const UNIT: i64 = 1 << 28;
 
+/// A count of 2^-28.
 #[derive(Clone, Copy, PartialEq, Eq, Debug)]
 pub struct Dyadic {
     pub count: i64,
@@ -79,7 +80,7 @@ pub impl Kind for Dyadic as DyadicKind {
     }
 }
 
-// Whether a count of 2^-28 is a whole number.
+/// Whether a count of 2^-28 is a whole number.
 fn is_whole(count: i64) -> bool
     ensures { λ r. ⌜ r ≡ eqb (natAbs count % 2 ^ 28) 0 ⌝ }
 {

@@ -3,6 +3,7 @@ ghost use Rattle.kinds.specs.Product.{product};
 use super::kind::Kind;
 use super::limits;
 
+/// A value of each of two kinds.
 #[derive(Clone, Copy, PartialEq, Eq, Debug)]
 pub struct Pair<A, B> {
     pub first: A,

@@ -6,15 +6,17 @@ ghost use Rattle.kinds.specs.Residues.{mersenne, class, residues, whole-residu
 use super::kind::Kind;
 use super::limits;
 
+/// The prime 2^31 - 1.
 const MODULUS: u32 = 2_147_483_647;
 
+/// A residue, by any number that has it.
 #[derive(Clone, Copy, Debug)]
 pub struct Residue {
     pub bits: u32,
 }
 
 impl Residue {
-    // The least number with this residue.
+    /// The least number with this residue.
     pub fn least(self) -> u32
         ensures value { λ r. ⌜ r ≡ self .bits % 2147483647 ⌝ }
         ensures bound { λ r. ⌜ r < 2147483647 ⌝ }

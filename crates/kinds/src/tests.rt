@@ -8,7 +8,7 @@ use super::residue::Residue;
 use super::residue::ResidueKind;
 use std::test::*;
 
-// The count that a dyadic answer has, or a count that no test expects.
+/// The count that a dyadic answer has, or a count that no test expects.
 fn count(x: Option<Dyadic>) -> i64 {
     match x {
         Some(x) => x.count,
@@ -16,7 +16,7 @@ fn count(x: Option<Dyadic>) -> i64 {
     }
 }
 
-// The bits that a residue answer has, or bits that no test expects.
+/// The bits that a residue answer has, or bits that no test expects.
 fn bits(x: Option<Residue>) -> u32 {
     match x {
         Some(x) => x.bits,

@@ -8,9 +8,10 @@ mod tests;
 
 const MODULUS: u32 = 1_000_003;
 
-// the largest whole number
+/// The largest whole number.
 const LARGEST: u32 = 65_536;
 
+/// A count modulo 1,000,003.
 #[derive(Clone, Copy)]
 pub struct Modular {
     pub count: u32,

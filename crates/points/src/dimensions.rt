@@ -6,7 +6,7 @@ ghost use Rattle.points.specs.Refusals.{refusal-of, first};
 ghost use Rattle.std.specs.Vec.{made};
 use super::refusal::Refusal;
 
-// One to four dimensions.
+/// One to four dimensions.
 #[derive(Clone, Copy, PartialEq, Eq, Debug)]
 pub struct Dims {
     count: u8,
@@ -14,7 +14,7 @@ pub struct Dims {
 }
 
 impl Dims {
-    // `d` dimensions.
+    /// `d` dimensions.
     pub fn new(d: u32) -> Result<Dims, Refusal>
         ensures refuses { λ r. ⌜ refusal-of r ≡ first (dims-causes d) ⌝ }
         ensures counts { λ r. ⌜ made r (λ x. x .count ≡ d) ⌝ }
@@ -25,14 +25,14 @@ impl Dims {
         }
     }
 
-    // One dimension.
+    /// One dimension.
     pub fn one() -> Dims
         ensures { λ r. ⌜ r .count ≡ 1 ⌝ }
     {
         Dims { count: 1 }
     }
 
-    // How many dimensions.
+    /// How many dimensions.
     pub fn count(self) -> u8
         ensures { λ r. ⌜ r ≡ self .count ⌝ }
     {

@@ -9,24 +9,24 @@ use super::axis::level_of;
 use super::dimensions::Dims;
 use super::refusal::Refusal;
 
-// The greatest level sum of a point.
+/// The greatest level sum of a point.
 const LEVEL_SUM_LIMIT: u32 = 16;
 
-// The four coordinates, the first direction's first.
+/// The four coordinates, the first direction's first.
 pub fn coordinates(n: u32) -> [u8; 4]
     ensures { λ r. ⌜ r ≡ coords n ⌝ }
 {
     n.to_be_bytes()
 }
 
-// The number of four coordinates.
+/// The number of four coordinates.
 pub fn number_of(coordinates: [u8; 4]) -> u32
     ensures { λ r. ⌜ r ≡ number coordinates ⌝ }
 {
     u32::from_be_bytes(coordinates)
 }
 
-// The levels of the used coordinates together.
+/// The levels of the used coordinates together.
 pub fn level_sum(dims: Dims, point: u32) -> u32
     ensures { λ r. ⌜ r ≡ level-sum (dims .count) point ⌝ }
 {
@@ -39,7 +39,7 @@ pub fn level_sum(dims: Dims, point: u32) -> u32
     sum
 }
 
-// Whether each coordinate is `low` to `high`.
+/// Whether each coordinate is `low` to `high`.
 fn all_within(coordinates: &[u8], low: u8, high: u8) -> bool
     ensures { λ r. ⌜ r ≡ every (within low high) (now (coordinates .entry)) ⌝ }
 {
@@ -51,7 +51,7 @@ fn all_within(coordinates: &[u8], low: u8, high: u8) -> bool
     true
 }
 
-// Whether the used coordinates are `low` to `high` and the others 0.
+/// Whether the used coordinates are `low` to `high` and the others 0.
 fn is_shaped(dims: Dims, n: u32, low: u8, high: u8) -> bool
     ensures { λ r. ⌜ r ≡ shaped (within low high) (dims .count) n ⌝ }
 {
@@ -60,7 +60,7 @@ fn is_shaped(dims: Dims, n: u32, low: u8, high: u8) -> bool
     all_within(used, low, high) && all_within(unused, 0, 0)
 }
 
-// Refuses what is no point: a wrong coordinate first, then too great a level sum.
+/// Refuses what is no point: a wrong coordinate first, then too great a level sum.
 pub fn check_point(dims: Dims, point: u32) -> Result<(), Refusal>
     ensures { λ r. ⌜ refusal-of r ≡ first (point-causes (dims .count) point) ⌝ }
 {
@@ -73,7 +73,7 @@ pub fn check_point(dims: Dims, point: u32) -> Result<(), Refusal>
     Ok(())
 }
 
-// Refuses what is no place.
+/// Refuses what is no place.
 pub fn check_place(dims: Dims, place: u32) -> Result<(), Refusal>
     ensures { λ r. ⌜ refusal-of r ≡ first (place-causes (dims .count) place) ⌝ }
 {
@@ -84,7 +84,7 @@ pub fn check_place(dims: Dims, place: u32) -> Result<(), Refusal>
     }
 }
 
-// The coordinate of a direction, counted from 0, where it is a point's.
+/// The coordinate of a direction, counted from 0, where it is a point's.
 fn coordinate_in(direction: usize, point: u32) -> Option<Coordinate>
     ensures { λ r. ⌜ mapped (λ k. k .value) r ≡ whenTrue (inner (coord-in direction point)) (coord-in direction point) ⌝ }
 {
@@ -93,7 +93,7 @@ fn coordinate_in(direction: usize, point: u32) -> Option<Coordinate>
     Coordinate::new(*k)
 }
 
-// The point with another coordinate in a direction.
+/// The point with another coordinate in a direction.
 fn with_coordinate(direction: usize, point: u32, k: Coordinate) -> u32
     ensures { λ r. ⌜ r ≡ replaced direction point (k .value) ⌝ }
 {
@@ -104,7 +104,7 @@ fn with_coordinate(direction: usize, point: u32, k: Coordinate) -> u32
     number_of(all)
 }
 
-// The parent in a direction, counted from 0, if the coordinate there has one.
+/// The parent in a direction, counted from 0, if the coordinate there has one.
 pub fn parent_in(direction: usize, point: u32) -> Option<u32>
     ensures { λ r. ⌜ r ≡ parent-in direction point ⌝ }
 {
@@ -112,7 +112,7 @@ pub fn parent_in(direction: usize, point: u32) -> Option<u32>
     Some(with_coordinate(direction, point, up))
 }
 
-// The left and the right child in a direction, counted from 0, if the coordinate there has children.
+/// The left and the right child in a direction, counted from 0, if the coordinate there has children.
 pub fn children_in(direction: usize, point: u32) -> Option<(u32, u32)>
     ensures { λ r. ⌜ r ≡ children-in direction point ⌝ }
 {
@@ -123,7 +123,7 @@ pub fn children_in(direction: usize, point: u32) -> Option<(u32, u32)>
     ))
 }
 
-// Holds by its contract: neither a number nor its coordinates lose anything.
+/// Holds by its contract: neither a number nor its coordinates lose anything.
 pub fn numbers_and_coordinates_agree() -> u8
     ensures { λ _. ⌜ Numbered ⌝ }
 {

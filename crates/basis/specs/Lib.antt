@@ -1,0 +1,11 @@
+pub mod Lists
+pub mod Sums
+pub mod Axis
+pub mod Grid
+pub mod Surplus
+pub mod Recursion
+pub mod Interpolant
+pub mod Shapes
+pub mod Numbers
+pub mod Laws
+pub mod Examples

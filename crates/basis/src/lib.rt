@@ -1,0 +1,4 @@
+// The hierarchical hat basis: surplus, interpolant and integral, and their laws.
+pub mod examples;
+pub mod laws;
+pub mod shapes;
