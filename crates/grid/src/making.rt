@@ -46,7 +46,12 @@ impl<'g, 'm, K: Kind> Grid<'g, 'm, K> {
         number: u32,
         ticket: u32,
         store: &'g mut Store<'m, Record<K>>,
-    ) -> Grid<'g, 'm, K> {
+    ) -> Grid<'g, 'm, K>
+        ensures dims { λ r. ⌜ r .dims .count ≡ made-dims (first (make-causes dims (places (now (store .entry))) (lookups (now (store .entry))) number ticket)) dims ⌝ }
+        ensures numbers { λ r. ⌜ (r .number ≡ number) × (r .«next_ticket» ≡ ticket) ⌝ }
+        ensures empty { λ r. ⌜ items (now (r .store)) ≡ [] ⌝ }
+        ensures room { λ r. ⌜ capacity (now (r .store)) ≡ made-room (first (make-causes dims (places (now (store .entry))) (lookups (now (store .entry))) number ticket)) (places (now (store .entry))) ⌝ }
+    {
         let places = store.places();
         let (dims, room) = match check(dims, places, store.lookups(), number, ticket) {
             Ok(dims) => (dims, places),

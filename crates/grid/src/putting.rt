@@ -1,8 +1,9 @@
 // Points put in by a reader.
 ghost use mathlib.Core.Path.{_≡_};
+ghost use mathlib.Core.List.{[]};
 ghost use lib.Dec.{eqb};
 ghost use lib.ListN.{length};
-ghost use Rattle.store.specs.Contents.{items};
+ghost use Rattle.store.specs.Contents.{items, capacity};
 use crate::grid::Grid;
 use crate::record::Entered;
 use crate::record::Record;
@@ -16,19 +17,26 @@ use store::InsertFault;
 
 impl<'g, 'm, K: Kind> Grid<'g, 'm, K> {
     /// The number of dimensions.
-    pub fn dims(&self) -> Dims {
+    pub fn dims(&self) -> Dims
+        ensures { λ r. ⌜ r ≡ now (self .entry) .dims ⌝ }
+    {
         self.dims
     }
 
     /// Whether nothing is in or out.
-    pub fn is_empty(&self) -> bool {
+    pub fn is_empty(&self) -> bool
+        ensures { λ r. ⌜ r ≡ eqb (length (items (now (self .entry) .store .now))) 0 ⌝ }
+    {
         self.store.len() == 0
     }
 
     /// Takes out whatever is in or out.
-    pub fn clear(&mut self) {
-        let room = self.room();
-        self.store.reset(room)
+    pub fn clear(&mut self)
+        ensures empty { λ _. ⌜ items (now (self .exit) .store .now) ≡ [] ⌝ }
+        ensures room { λ _. ⌜ capacity (now (self .exit) .store .now) ≡ capacity (now (self .entry) .store .now) ⌝ }
+        ensures figures { λ _. ⌜ (now (self .exit) .dims ≡ now (self .entry) .dims) × (now (self .exit) .number ≡ now (self .entry) .number) × (now (self .exit) .«next_ticket» ≡ now (self .entry) .«next_ticket») ⌝ }
+    {
+        self.store.clear()
     }
 
     /// Puts a point in, with the value of a whole number as its sample.
@@ -60,11 +68,6 @@ impl<'g, 'm, K: Kind> Grid<'g, 'm, K> {
             Err(InsertFault::Known) => Err(Refusal::PointIn),
             Err(InsertFault::Full) => Err(Refusal::PlacesFull),
         }
-    }
-
-    // The number of point places.
-    fn room(&self) -> usize {
-        self.store.capacity()
     }
 
     // Whether a point is in or out.

@@ -25,7 +25,9 @@ pub enum Record<K> {
 
 impl<K> Record<K> {
     /// A record to make memory of, which no grid takes for a point.
-    pub fn blank() -> Record<K> {
+    pub fn blank() -> Record<K>
+        ensures { λ r. ⌜ r ≡ Out (record { ticket = 0; session = 0 }) ⌝ }
+    {
         Record::Out(Drawn {
             ticket: 0,
             session: 0,

@@ -14,6 +14,17 @@ use super::table::Table;
 use super::table::room_for;
 
 impl<'m, S: Copy> Table<'m, S> {
+    fn clear(&mut self)
+        requires { ⌜ Kept (now self) ⌝ }
+        ensures sound { λ _. ⌜ Kept (now (self .exit)) ⌝ }
+        ensures empty { λ _. ⌜ content (now (self .exit)) ≡ [] ⌝ }
+        ensures room { λ _. ⌜ now (self .exit) .room ≡ now (self .entry) .room ⌝ }
+    {
+        index::wipe(self.entries);
+        self.used = 0;
+        self.worn = 0;
+    }
+
     fn reset(&mut self, room: usize)
         ensures sound { λ _. ⌜ Kept (now (self .exit)) ⌝ }
         ensures empty { λ _. ⌜ content (now (self .exit)) ≡ [] ⌝ }
@@ -50,5 +61,14 @@ impl<'m, S: Copy> Store<'m, S> {
         ensures room { λ _. ⌜ capacity (now (self .exit)) ≡ roomFor room (places (now (self .entry))) (lookups (now (self .entry))) ⌝ }
     {
         self.table.reset(room)
+    }
+
+    // Holds nothing from now on, with the same capacity.
+    pub fn clear(&mut self)
+        ensures empty { λ _. ⌜ items (now (self .exit)) ≡ [] ⌝ }
+        ensures none { λ _. ⌜ ((q : ℕ) → status (now (self .exit)) q ≡ None) ⌝ }
+        ensures room { λ _. ⌜ capacity (now (self .exit)) ≡ capacity (now (self .entry)) ⌝ }
+    {
+        self.table.clear()
     }
 }
