@@ -1,0 +1,10 @@
+pub mod Lists
+pub mod Places
+pub mod Steps
+pub mod Entries
+pub mod Holdings
+pub mod Tickets
+pub mod Soundness
+pub mod Sampled
+pub mod Theorem
+pub mod Worked

@@ -1,0 +1,11 @@
+pub mod Ledger
+pub mod Calls
+pub mod Making
+pub mod Questions
+pub mod Course
+pub mod History
+pub mod Interpolation
+pub mod Sound
+pub mod Guarantees
+pub mod Numbers
+pub mod Examples
