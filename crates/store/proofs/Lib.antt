@@ -1,5 +1,10 @@
--- Lemmas that several proofs share.
+-- Lemmas that several proofs share. `Facts` serves the crates above too.
 mod Pigeon
-mod Changes
+mod Ways
+mod Adding
+mod Dropping
+mod Rehashing
 mod Once
 mod States
+mod Weeding
+pub mod Facts

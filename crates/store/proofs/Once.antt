@@ -9,10 +9,10 @@ use Rattle.store.specs.Layout.{Sound, Kept}
 use Rattle.store.specs.declared.table.Table.{Table}
 use Rattle.store.specs.Index.{Index, Way, slotAt, homeAt, pointAt, startOf}
 use Rattle.store.specs.declared.entry.Entry.{Entry}
-use Rattle.store.specs.declared.entry.Slot.{Slot}
-use Rattle.store.specs.declared.entry.Slot.the-variants.{Empty, Gone, At}
+use Rattle.store.specs.declared.entry.Slot.the-variants.{Empty, At}
 use Rattle.store.specs.contracts.entry.Slot as row
 
+-- a way
 way-prop : (es : List Entry) (a h : ℕ) → IsProp (Way es a h)
 way-prop es a h x y =
     let up : IsProp ((k : ℕ) → a ≤ k → k < h → slotAt es k ≡ Empty → ⊥) = search props depth 9 in
@@ -20,6 +20,7 @@ way-prop es a h x y =
     let low : IsProp ((k : ℕ) → h < a → k < h → slotAt es k ≡ Empty → ⊥) = search props depth 9 in
     λ i. record { up = up (x .up) (y .up) i; round = round (x .round) (y .round) i; low = low (x .low) (y .low) i }
 
+-- an index
 index-prop : (es : List Entry) (used : ℕ) → IsProp (Index es used)
 index-prop es used x y =
     let le : (a b : ℕ) → IsProp (a ≤ b) = λ a b. search props in
@@ -37,6 +38,7 @@ index-prop es used x y =
       ways = ways (x .ways) (y .ways) i;
     }
 
+-- a sound table
 sound-prop : {S : Type 0} (t : Table S) → IsProp (Sound t)
 sound-prop t x y =
     let le : (a b : ℕ) → IsProp (a ≤ b) = λ a b. search props in

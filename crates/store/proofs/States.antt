@@ -1,14 +1,12 @@
 -- What the items of a table say of a point, by the records.
 use mathlib.Core.Path.{_≡_, refl, sym, ap, _∙_}
-use mathlib.Core.List.{List, [], _∷_, map}
+use mathlib.Core.List.{List, [], _∷_}
 use mathlib.Core.Logic.{_⊎_, inl, inr, ⊎-elim}
-use mathlib.Core.Bool.{cond}
 use Prim.Native.Nat.{ℕ, zero, suc, _+_, _-_, _≤_, _<_}
 use native.Mathlib.Omega.{arith}
-use lib.ListN.{length, take, set}
+use lib.ListN.{length, set}
 use lib.Dec.{eqb}
-use Rattle.std.specs.Finite.{nth, update, zipped}
-use Rattle.std.specs.Options.{Cases as BySome}
+use Rattle.std.specs.Finite.{nth, update}
 use Rattle.std.proofs.shelf.Maps.{update-here, update-apart}
 use Rattle.std.proofs.shelf.Lists.{length-set}
 use Rattle.std.specs.declared.option.Option.{Option}
@@ -23,6 +21,7 @@ use Rattle.store.specs.declared.entry.Entry.{Entry}
 abbrev pub Apart : List Entry → ℕ → Type 0
 Apart es used = (i j : ℕ) → i < used → j < used → pointAt es i ≡ pointAt es j → i ≡ j
 
+-- a point with no record has no state
 pub look-absent : {S : Type 0} (es : List Entry) (ss : List S) (used p : ℕ) → Absent es used p → look (held es ss used) p ≡ None
 unfolding look held
 look-absent es ss zero p h = refl
@@ -32,6 +31,7 @@ look-absent (e ∷ es) (s ∷ ss) (suc n) p h =
     cond-false (eqb p (e .point)) (Some s) (look (held es ss n) p) (ne-eqb p (e .point) (λ x. h 0 (omega arith) (sym x)))
     ∙ look-absent es ss n p (λ i b. h (suc i) (omega arith))
 
+-- a point with a record has the state there
 pub look-found : {S : Type 0} (es : List Entry) (ss : List S) (used i p : ℕ) → Apart es used → used ≤ length es → used ≤ length ss
     → i < used → pointAt es i ≡ p → look (held es ss used) p ≡ nth ss i
 unfolding look held
@@ -84,11 +84,13 @@ which es (suc k) p = ⊎-elim (λ h. inl (k, (omega arith, h)))
     (λ a. inr (λ i b e. ⊎-elim (λ h. n (ap (pointAt es) (sym h) ∙ e)) (λ m. a i (omega arith) e) (cases-eq i k))) (which es k p))
     (cases-eq (pointAt es k) p)
 
+-- what is written is read
 nth-set-same : {S : Type 0} (ss : List S) (i : ℕ) (s : S) → i < length ss → nth (set ss i s) i ≡ Some s
 nth-set-same [] i s b = absurd (omega arith)
 nth-set-same (x ∷ xs) zero s b = refl
 nth-set-same (x ∷ xs) (suc i) s b = nth-set-same xs i s (omega arith)
 
+-- the other places are as before
 nth-set-other : {S : Type 0} (ss : List S) (i k : ℕ) (s : S) → (k ≡ i → ⊥) → nth (set ss i s) k ≡ nth ss k
 nth-set-other [] i k s n = refl
 nth-set-other (x ∷ xs) zero zero s n = absurd (n refl)
@@ -96,16 +98,19 @@ nth-set-other (x ∷ xs) zero (suc k) s n = refl
 nth-set-other (x ∷ xs) (suc i) zero s n = refl
 nth-set-other (x ∷ xs) (suc i) (suc k) s n = nth-set-other xs i k s (λ e. n (ap suc e))
 
+-- a write of one state
 pub written : {S : Type 0} (ss : List S) (i : ℕ) (s : S) → i < length ss → Written ss (set ss i s) i (Some s)
 written ss i s b = record { len = length-set ss i s; here = nth-set-same ss i s b; others = λ k n. nth-set-other ss i k s n }
 
+-- there is something at each place of a list
 nth-some : {S : Type 0} (ss : List S) (i : ℕ) → i < length ss → nth ss i ≡ None → ⊥
 nth-some [] i b e = omega arith
 nth-some (x ∷ xs) zero b e = let z : _≡_ {A = ℕ} 0 1 = cc in omega arith
 nth-some (x ∷ xs) (suc i) b e = nth-some xs i (omega arith) e
 
--- the first `used` of es and ss are records, no two with one point
+-- the entries es are an index of the first `used` records of ss
 module _ {S : Type 0} (es : List Entry) (ss : List S) (used : ℕ) (ok : Index es used) (fits : used ≤ length ss) where
+  -- a point with a record has the state there
   pub found : (i p : ℕ) → i < used → pointAt es i ≡ p → look (held es ss used) p ≡ nth ss i
   found i p b e = look-found es ss used i p (ok .apart) (ok .fits) fits b e
 

@@ -2,8 +2,9 @@
 -- slot i of the hash table, and of the record i the point and the home, which is the slot that leads to it.
 use mathlib.Core.Path.{_≡_}
 use mathlib.Core.List.{List}
-use mathlib.Core.Bool.{Bool, true, false}
-use Prim.Native.Nat.{ℕ, _+_, _-_, _*_, _%_, _≤_, _<_, _^_}
+use mathlib.Core.Bool.{Bool, true, false, cond}
+use Prim.Native.Nat.{ℕ, _+_, _-_, _*_, _/_, _%_, _≤_, _<_, _^_}
+use lib.Dec.{ltb}
 use lib.ListN.{length, getD}
 use Rattle.store.specs.declared.entry.Entry.{Entry}
 use Rattle.store.specs.declared.entry.Slot.{Slot}
@@ -123,3 +124,7 @@ pub record Rehashed (es fs : List Entry) (used : ℕ) : Type 0 where
   pub index : Index fs used
   pub len : length fs ≡ length es
   pub points : (k : ℕ) → pointAt fs k ≡ pointAt es k
+
+-- the removals since the hash table was made, after one more: it is made anew once a quarter of its n slots may be gone
+abbrev pub wornAfter : ℕ → ℕ → ℕ
+wornAfter worn n = cond (ltb worn (n / 4)) (worn + 1) 0

@@ -54,11 +54,15 @@ pub record Weeded {S : Type 0} (xs ys : List (ℕ × S)) (f : S → Bool) (n : �
   pub states : (q : ℕ) → look ys q ≡ unpicked f (look xs q)
   pub count : length ys + n ≡ length xs
 
+-- why an insertion is refused, with room for n items
+abbrev pub Cause : {S : Type 0} → List (ℕ × S) → ℕ → ℕ → InsertFault → Type 0
+Cause xs n p Known = look xs p ≡ None → ⊥
+Cause xs n p Full = (look xs p ≡ None) × (length xs ≡ n)
+
 -- what an insertion answers, with room for n items: a refusal alters nothing
 abbrev pub InsertAnswer : {S : Type 0} → List (ℕ × S) → List (ℕ × S) → ℕ → ℕ → S → Result (Unit {0}) InsertFault → Type 0
 InsertAnswer xs ys n p s (Ok u) = (length xs < n) × Inserted xs ys p s
-InsertAnswer xs ys n p s (Err Known) = (look xs p ≡ None → ⊥) × (ys ≡ xs)
-InsertAnswer xs ys n p s (Err Full) = (look xs p ≡ None) × (length xs ≡ n) × (ys ≡ xs)
+InsertAnswer xs ys n p s (Err e) = Cause xs n p e × (ys ≡ xs)
 
 -- what a replacement answers
 abbrev pub ReplaceAnswer : {S : Type 0} → List (ℕ × S) → List (ℕ × S) → ℕ → S → Bool → Type 0

@@ -1,7 +1,7 @@
 -- How the items lie in the lent memory.
 use mathlib.Core.Path.{_≡_}
 use mathlib.Core.List.{List, map}
-use Prim.Native.Nat.{ℕ, _≤_, _<_}
+use Prim.Native.Nat.{ℕ, _≤_}
 use lib.ListN.{length, take}
 use Rattle.std.specs.Finite.{nth, zipped}
 use Rattle.std.specs.declared.option.Option.{Option}
@@ -31,7 +31,7 @@ abbrev pub Kept : {S : Type 0} → Table S → Type 0
 Kept t = ∥ Sound t ∥₁
 
 -- record i has the point p, and is its state
-pub record Found {S : Type 0} (t : Table S) (p i : ℕ) : Type 0 where
+pub record RecordOf {S : Type 0} (t : Table S) (p i : ℕ) : Type 0 where
   pub place : Place (t .entries .now) (t .used) p i
   pub state : look (content t) p ≡ nth (t .records .now) i
   pub known : look (content t) p ≡ None → ⊥

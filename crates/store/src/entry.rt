@@ -4,7 +4,7 @@ ghost use Prim.Native.Nat.{_<_};
 ghost use lib.ListN.{length};
 ghost use Rattle.store.specs.Index.{blank, pointAt, SlotSet, RecordSet};
 
-// What a slot of the hash table holds: nothing yet, nothing any more, or the number of a record.
+/// What a slot of the hash table holds: nothing yet, nothing any more, or the number of a record.
 #[derive(Clone, Copy)]
 pub(crate) enum Slot {
     Empty,
@@ -12,7 +12,7 @@ pub(crate) enum Slot {
     At(usize),
 }
 
-// The entry of number i has the slot i of the hash table, and of the record i the point and the slot that leads to it, its home.
+/// The entry of number i has the slot i of the hash table, and of the record i the point and the slot that leads to it, its home.
 #[derive(Clone, Copy)]
 pub struct Entry {
     pub(crate) slot: Slot,
@@ -21,7 +21,7 @@ pub struct Entry {
 }
 
 impl Entry {
-    // An entry to make the memory of; a store takes memory of any content.
+    /// An entry to make the memory of; a store takes memory of any content.
     pub fn blank() -> Entry
         ensures { λ r. ⌜ r ≡ blank ⌝ }
     {
@@ -33,6 +33,7 @@ impl Entry {
     }
 }
 
+/// The point of record `i`.
 pub(crate) fn point_at(es: &[Entry], i: usize) -> u32
     requires { ⌜ i < length (now es) ⌝ }
     ensures { λ r. ⌜ r ≡ pointAt (now (es .entry)) i ⌝ }
@@ -40,6 +41,7 @@ pub(crate) fn point_at(es: &[Entry], i: usize) -> u32
     es[i].point
 }
 
+/// Writes the slot `j`.
 pub(crate) fn set_slot(es: &mut [Entry], j: usize, slot: Slot)
     requires { ⌜ j < length (now es) ⌝ }
     ensures { λ _. ⌜ SlotSet (now (es .entry)) (now (es .exit)) j slot ⌝ }
@@ -47,6 +49,7 @@ pub(crate) fn set_slot(es: &mut [Entry], j: usize, slot: Slot)
     es[j].slot = slot;
 }
 
+/// Writes the point and the home of record `i`.
 pub(crate) fn set_record(es: &mut [Entry], i: usize, point: u32, home: usize)
     requires { ⌜ i < length (now es) ⌝ }
     ensures { λ _. ⌜ RecordSet (now (es .entry)) (now (es .exit)) i point home ⌝ }

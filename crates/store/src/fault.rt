@@ -1,6 +1,6 @@
 // Why an insertion is refused.
 
-// The point has a state already, or the store holds as many points as its capacity.
+/// The point has a state already, or the store holds as many points as its capacity.
 #[derive(Clone, Copy, PartialEq, Eq, Debug)]
 pub enum InsertFault {
     Known,

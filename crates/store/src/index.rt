@@ -1,8 +1,8 @@
 // How the index of the records changes with them.
 ghost use mathlib.Core.Path.{_≡_};
-ghost use Prim.Native.Nat.{ℕ, _<_};
+ghost use Prim.Native.Nat.{_<_};
 ghost use lib.ListN.{length};
-ghost use Rattle.store.specs.Index.{Index, Absent, Added, Dropped, Rehashed};
+ghost use Rattle.store.specs.Index.{Index, Absent, Added, Dropped, Rehashed, wornAfter};
 use super::entry::Entry;
 use super::entry::Slot;
 use super::entry::set_record;
@@ -10,7 +10,7 @@ use super::entry::set_slot;
 use super::probe::free;
 use super::probe::start;
 
-// One record more, at the end.
+/// One record more, at the end.
 pub(crate) fn add(es: &mut [Entry], used: usize, p: u32)
     requires index { ⌜ Index (now es) used ⌝ }
     requires room { ⌜ used < length (now es) ⌝ }
@@ -23,7 +23,7 @@ pub(crate) fn add(es: &mut [Entry], used: usize, p: u32)
     set_slot(es, j, Slot::At(used));
 }
 
-// One record less: the last takes the place of record `i`, and the slot that led to `i` is gone.
+/// One record less: the last takes the place of record `i`, and the slot that led to `i` is gone.
 pub(crate) fn remove(es: &mut [Entry], used: usize, i: usize)
     requires index { ⌜ Index (now es) used ⌝ }
     requires within { ⌜ i < used ⌝ }
@@ -37,7 +37,7 @@ pub(crate) fn remove(es: &mut [Entry], used: usize, i: usize)
     set_slot(es, hole, Slot::Gone);
 }
 
-// Empties every slot, whatever the memory holds.
+/// Empties every slot, whatever the memory holds.
 pub(crate) fn wipe(es: &mut [Entry])
     ensures { λ _. ⌜ Rehashed (now (es .entry)) (now (es .exit)) 0 ⌝ }
 {
@@ -46,7 +46,7 @@ pub(crate) fn wipe(es: &mut [Entry])
     }
 }
 
-// Makes the hash table anew, with no slot that is gone.
+/// Makes the hash table anew, with no slot that is gone.
 fn rebuild(es: &mut [Entry], used: usize)
     requires { ⌜ Index (now es) used ⌝ }
     ensures { λ _. ⌜ Rehashed (now (es .entry)) (now (es .exit)) used ⌝ }
@@ -58,11 +58,12 @@ fn rebuild(es: &mut [Entry], used: usize)
     }
 }
 
-// After a removal: makes the hash table anew once a quarter of its slots may be gone.
-// `worn` counts the removals since that was last done, and the result is the new count.
+/// After a removal: makes the hash table anew once a quarter of its slots may be gone.
+/// `worn` counts the removals since that was last done, and the result is the new count.
 pub(crate) fn settle(es: &mut [Entry], used: usize, worn: usize) -> usize
     requires { ⌜ Index (now es) used ⌝ }
-    ensures { λ _. ⌜ Rehashed (now (es .entry)) (now (es .exit)) used ⌝ }
+    ensures rehashed { λ _. ⌜ Rehashed (now (es .entry)) (now (es .exit)) used ⌝ }
+    ensures count { λ r. ⌜ r ≡ wornAfter worn (length (now (es .entry))) ⌝ }
 {
     if worn < es.len() / 4 {
         return worn + 1;

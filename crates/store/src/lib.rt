@@ -10,13 +10,16 @@ mod index;
 mod memory;
 mod picks;
 mod probe;
+mod records;
 mod table;
+#[cfg(test)]
+mod tests;
 
 pub use entry::Entry;
 pub use fault::InsertFault;
 pub use picks::Picks;
 
-// Its table is sound, whatever the lent memory held before.
+/// Its table is sound, whatever the lent memory held before.
 #[derive(Drop)]
 pub struct Store<'m, S> {
     table: Table<'m, S>,

@@ -40,21 +40,21 @@ impl<'m, S: Copy> Table<'m, S> {
 }
 
 impl<'m, S: Copy> Store<'m, S> {
-    // How many records were lent.
+    /// How many records were lent.
     pub fn places(&self) -> usize
         ensures { λ r. ⌜ r ≡ places (now (self .entry)) ⌝ }
     {
         self.table.records.len()
     }
 
-    // How many lookup entries were lent.
+    /// How many lookup entries were lent.
     pub fn lookups(&self) -> usize
         ensures { λ r. ⌜ r ≡ lookups (now (self .entry)) ⌝ }
     {
         self.table.entries.len()
     }
 
-    // Holds nothing from now on, with room for `room` points, or for none where a slice is shorter than that.
+    /// Holds nothing from now on, with room for `room` points, or for none where a slice is shorter than that.
     pub fn reset(&mut self, room: usize)
         ensures empty { λ _. ⌜ items (now (self .exit)) ≡ [] ⌝ }
         ensures none { λ _. ⌜ ((q : ℕ) → status (now (self .exit)) q ≡ None) ⌝ }
@@ -63,7 +63,7 @@ impl<'m, S: Copy> Store<'m, S> {
         self.table.reset(room)
     }
 
-    // Holds nothing from now on, with the same capacity.
+    /// Holds nothing from now on, with the same capacity.
     pub fn clear(&mut self)
         ensures empty { λ _. ⌜ items (now (self .exit)) ≡ [] ⌝ }
         ensures none { λ _. ⌜ ((q : ℕ) → status (now (self .exit)) q ≡ None) ⌝ }

@@ -1,7 +1,6 @@
 // Linear probing: from a point's start to the end of the slots, and then from slot 0 to the start.
 ghost use mathlib.Core.Path.{_≡_};
-ghost use mathlib.Core.Bool.{true, false};
-ghost use Prim.Native.Nat.{ℕ, _<_, _≤_};
+ghost use Prim.Native.Nat.{_<_, _≤_};
 ghost use lib.ListN.{length};
 ghost use Rattle.std.specs.Options.{Cases as BySome};
 ghost use Rattle.store.specs.Index.{Index, Absent, Taken, Free, Scanned, Vacancy, Place, startOf};
@@ -9,7 +8,7 @@ use super::entry::Entry;
 use super::entry::Slot;
 use super::entry::point_at;
 
-// The slot at which the search for a point begins, of `n`.
+/// The slot at which the search for a point begins, of `n`.
 pub(crate) fn start(p: u32, n: usize) -> usize
     requires { ⌜ 0 < n ⌝ }
     ensures value { λ r. ⌜ r ≡ startOf p n ⌝ }
@@ -18,7 +17,7 @@ pub(crate) fn start(p: u32, n: usize) -> usize
     p.wrapping_mul(2654435769) as usize % n
 }
 
-// What a scan for a point came to: its record, an empty slot, or the end of the range.
+/// What a scan for a point came to: its record, an empty slot, or the end of the range.
 #[derive(Clone, Copy)]
 pub(crate) enum Seen {
     Found(usize),
@@ -26,6 +25,7 @@ pub(crate) enum Seen {
     Through,
 }
 
+/// Looks for a point in the slots from `from` to `end`, up to the first that is empty.
 fn scan(es: &[Entry], used: usize, p: u32, from: usize, end: usize) -> Seen
     requires index { ⌜ Index (now es) used ⌝ }
     requires order { ⌜ from ≤ end ⌝ }
@@ -46,7 +46,7 @@ fn scan(es: &[Entry], used: usize, p: u32, from: usize, end: usize) -> Seen
     Seen::Through
 }
 
-// The record of a point.
+/// The record of a point.
 pub(crate) fn find(es: &[Entry], used: usize, p: u32) -> Option<usize>
     requires { ⌜ Index (now es) used ⌝ }
     ensures { λ r. ⌜ BySome r (Absent (now (es .entry)) used p) (Place (now (es .entry)) used p) ⌝ }
@@ -67,6 +67,7 @@ pub(crate) fn find(es: &[Entry], used: usize, p: u32) -> Option<usize>
     }
 }
 
+/// The first slot from `from` to `end` that is not taken.
 fn vacancy(es: &[Entry], from: usize, end: usize) -> Option<usize>
     requires order { ⌜ from ≤ end ⌝ }
     requires within { ⌜ end ≤ length (now es) ⌝ }
@@ -82,7 +83,7 @@ fn vacancy(es: &[Entry], from: usize, end: usize) -> Option<usize>
     None
 }
 
-// The first slot that is not taken, on the way from `h`.
+/// The first slot that is not taken, on the way from `h`.
 pub(crate) fn free(es: &[Entry], used: usize, h: usize) -> usize
     requires index { ⌜ Index (now es) used ⌝ }
     requires room { ⌜ used < length (now es) ⌝ }

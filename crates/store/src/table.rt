@@ -1,19 +1,24 @@
 // The table of a store: the records in use lie at the front of their slice, and the entries are the index of them.
 ghost use mathlib.Core.Path.{_≡_};
 ghost use mathlib.Core.List.{[]};
-ghost use Prim.Native.Nat.{ℕ, _-_, _<_, _≤_};
+ghost use Prim.Native.Nat.{_+_, _-_, _<_, _≤_};
 ghost use lib.ListN.{length};
 ghost use Rattle.std.specs.Options.{Cases as BySome};
 ghost use Rattle.std.specs.Finite.{nth};
 ghost use Rattle.std.specs.declared.option.Option.the-variants.{None, Some};
-ghost use Rattle.store.specs.Items.{look, roomFor, Inserted, Replaced, Removed};
-ghost use Rattle.store.specs.Layout.{content, Kept, Found, Written};
+ghost use Rattle.store.specs.Index.{pointAt};
+ghost use Rattle.store.specs.Items.{look, roomFor, Inserted, Replaced, Removed, Weeded};
+ghost use Rattle.store.specs.Layout.{content, Kept, RecordOf, Written};
 use super::entry::Entry;
 use super::entry::point_at;
 use super::index;
+use super::picks::Picks;
 use super::probe;
+use super::records::copy_state;
+use super::records::set_state;
+use super::records::state_at;
 
-// Room for so many records, of which the first `used` are in use; `worn` counts the removals since the hash table was made.
+/// Room for so many records, of which the first `used` are in use; `worn` counts the removals since the hash table was made.
 #[derive(Drop)]
 pub(crate) struct Table<'m, S> {
     pub(crate) room: usize,
@@ -23,20 +28,7 @@ pub(crate) struct Table<'m, S> {
     pub(crate) entries: &'m mut [Entry],
 }
 
-fn state_at<S: Copy>(ss: &[S], i: usize) -> S
-    requires { ⌜ i < length (now ss) ⌝ }
-    ensures { λ r. ⌜ nth (now (ss .entry)) i ≡ Some r ⌝ }
-{
-    ss[i]
-}
-
-fn set_state<S: Copy>(ss: &mut [S], i: usize, s: S)
-    requires { ⌜ i < length (now ss) ⌝ }
-    ensures { λ _. ⌜ Written (now (ss .entry)) (now (ss .exit)) i (Some s) ⌝ }
-{
-    ss[i] = s;
-}
-
+/// The room that slices of these lengths have for `n` records.
 pub(crate) fn room_for(n: usize, records: usize, entries: usize) -> usize
     ensures value { λ r. ⌜ r ≡ roomFor n records entries ⌝ }
     ensures bound { λ r. ⌜ r ≤ records ⌝ ∗ ⌜ r ≤ entries ⌝ }
@@ -45,6 +37,7 @@ pub(crate) fn room_for(n: usize, records: usize, entries: usize) -> usize
 }
 
 impl<'m, S: Copy> Table<'m, S> {
+    /// A table with no record in use, over memory of any content.
     pub(crate) fn new(room: usize, records: &'m mut [S], entries: &'m mut [Entry]) -> Table<'m, S>
         ensures sound { λ r. ⌜ Kept r ⌝ }
         ensures empty { λ r. ⌜ content r ≡ [] ⌝ }
@@ -61,12 +54,14 @@ impl<'m, S: Copy> Table<'m, S> {
         }
     }
 
+    /// How many records there is room for.
     pub(crate) fn capacity(&self) -> usize
         ensures { λ r. ⌜ r ≡ now (self .entry) .room ⌝ }
     {
         self.room
     }
 
+    /// How many records are in use.
     pub(crate) fn len(&self) -> usize
         requires { ⌜ Kept (now self) ⌝ }
         ensures count { λ r. ⌜ r ≡ length (content (now (self .entry))) ⌝ }
@@ -75,15 +70,15 @@ impl<'m, S: Copy> Table<'m, S> {
         self.used
     }
 
-    // The record of a point.
+    /// The record of a point.
     pub(crate) fn place(&self, p: u32) -> Option<usize>
         requires { ⌜ Kept (now self) ⌝ }
-        ensures { λ r. ⌜ BySome r (look (content (now (self .entry))) p ≡ None) (Found (now (self .entry)) p) ⌝ }
+        ensures { λ r. ⌜ BySome r (look (content (now (self .entry))) p ≡ None) (RecordOf (now (self .entry)) p) ⌝ }
     {
         probe::find(self.entries, self.used, p)
     }
 
-    // The state in record `i`.
+    /// The state in record `i`.
     pub(crate) fn state(&self, i: usize) -> S
         requires sound { ⌜ Kept (now self) ⌝ }
         requires within { ⌜ i < now self .used ⌝ }
@@ -92,7 +87,7 @@ impl<'m, S: Copy> Table<'m, S> {
         state_at(self.records, i)
     }
 
-    // The item of number `i`.
+    /// The item of number `i`.
     pub(crate) fn item(&self, i: usize) -> Option<(u32, S)>
         requires { ⌜ Kept (now self) ⌝ }
         ensures { λ r. ⌜ r ≡ nth (content (now (self .entry))) i ⌝ }
@@ -104,7 +99,7 @@ impl<'m, S: Copy> Table<'m, S> {
         }
     }
 
-    // A record for a point that has none.
+    /// A record for a point that has none.
     pub(crate) fn push(&mut self, p: u32, s: S)
         requires sound { ⌜ Kept (now self) ⌝ }
         requires absent { ⌜ look (content (now self)) p ≡ None ⌝ }
@@ -117,5 +112,54 @@ impl<'m, S: Copy> Table<'m, S> {
         index::add(self.entries, used, p);
         set_state(self.records, used, s);
         self.used = used + 1;
+    }
+
+    /// Another state in record `i`.
+    pub(crate) fn put(&mut self, i: usize, s: S)
+        requires sound { ⌜ Kept (now self) ⌝ }
+        requires within { ⌜ i < now self .used ⌝ }
+        ensures sound { λ _. ⌜ Kept (now (self .exit)) ⌝ }
+        ensures room { λ _. ⌜ now (self .exit) .room ≡ now (self .entry) .room ⌝ }
+        ensures replaced { λ _. ⌜ Replaced (content (now (self .entry))) (content (now (self .exit))) (pointAt (now (self .entry) .entries .now) i) s ⌝ }
+    {
+        set_state(self.records, i, s);
+    }
+
+    /// Drops record `i`: the last record takes its place.
+    pub(crate) fn drop_at(&mut self, i: usize)
+        requires sound { ⌜ Kept (now self) ⌝ }
+        requires within { ⌜ i < now self .used ⌝ }
+        ensures sound { λ _. ⌜ Kept (now (self .exit)) ⌝ }
+        ensures room { λ _. ⌜ now (self .exit) .room ≡ now (self .entry) .room ⌝ }
+        ensures used { λ _. ⌜ now (self .exit) .used + 1 ≡ now (self .entry) .used ⌝ }
+        ensures moved { λ _. ⌜ Written (now (self .entry) .records .now) (now (self .exit) .records .now) i (nth (now (self .entry) .records .now) (now (self .entry) .used - 1)) ⌝ }
+        ensures removed { λ _. ⌜ Removed (content (now (self .entry))) (content (now (self .exit))) (pointAt (now (self .entry) .entries .now) i) ⌝ }
+    {
+        let used = self.used;
+        copy_state(self.records, i, used - 1);
+        index::remove(self.entries, used, i);
+        self.used = used - 1;
+        let worn = self.worn;
+        self.worn = index::settle(self.entries, used - 1, worn);
+    }
+
+    /// Drops each record whose state is picked, and tells how many. It goes downward, so that what takes a dropped record's
+    /// place was looked at before.
+    pub(crate) fn weed<P: Picks<S>>(&mut self, picks: &P) -> usize
+        requires { ⌜ Kept (now self) ⌝ }
+        ensures sound { λ _. ⌜ Kept (now (self .exit)) ⌝ }
+        ensures room { λ _. ⌜ now (self .exit) .room ≡ now (self .entry) .room ⌝ }
+        ensures weeded { λ r. ⌜ Weeded (content (now (self .entry))) (content (now (self .exit))) (picked (now (picks .entry))) r ⌝ }
+    {
+        let mut n = 0;
+        let mut i = self.used;
+        while i > 0 {
+            i -= 1;
+            if picks.picks(self.state(i)) {
+                self.drop_at(i);
+                n += 1;
+            }
+        }
+        n
     }
 }

@@ -1,3 +1,4 @@
+-- The item that the table has is that of the store.
 use borrow.Author.Needs.{needs}
 use Rattle.store.specs.Contents.{items, capacity}
 use Rattle.store.proofs.Store.at.Needs as need

@@ -1,3 +1,4 @@
+-- The state in the record that the table finds is that of the point.
 use mathlib.Core.Path.{sym, _∙_}
 use Rattle.store.specs.Contents.{items}
 use Rattle.store.proofs.Store.get.Needs as need

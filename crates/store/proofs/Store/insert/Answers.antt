@@ -1,3 +1,4 @@
+-- A point that is known or finds no room alters nothing, and any other is pushed.
 use native.Mathlib.Omega.{arith}
 use mathlib.Core.Path.{refl}
 use Rattle.store.specs.Contents.{items, capacity}
@@ -10,7 +11,7 @@ returns-in-Some g c = record { answer = (c .in-Some .ensures tt .known, refl); r
 
 pub returns-then-len-capacity : need.returns-then-len-capacity
 unfolding items capacity
-returns-then-len-capacity g c = record { answer = (c .in-rest .ensures tt, omega arith, refl); room = refl }
+returns-then-len-capacity g c = record { answer = ((c .in-rest .ensures tt, omega arith), refl); room = refl }
 
 pub push-requires : need.push-requires
 push-requires g c κs =

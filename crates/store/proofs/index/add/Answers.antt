@@ -1,7 +1,8 @@
+-- The first vacancy on the way from a point's start becomes the home of its record.
 use mathlib.Core.Path.{subst}
 use Prim.Native.Nat.{ℕ}
 use Rattle.store.specs.Index.{Free}
-use Rattle.store.proofs.Changes.{added}
+use Rattle.store.proofs.Adding.{added}
 use Rattle.store.proofs.index.add.Needs as need
 
 pub returns : need.returns

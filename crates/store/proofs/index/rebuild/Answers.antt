@@ -1,8 +1,9 @@
+-- Records are added one after the other to an index that was wiped.
 use native.Mathlib.Omega.{arith}
 use mathlib.Core.Path.{_≡_, refl, subst}
 use Prim.Native.Nat.{ℕ}
 use Rattle.store.specs.Index.{Rehashed}
-use Rattle.store.proofs.Changes.{relinked, next-absent, rehashed-twice}
+use Rattle.store.proofs.Rehashing.{relinked, next-absent, rehashed-twice}
 use Rattle.store.proofs.index.rebuild.Needs as need
 
 pub loop-i-holds : need.loop-i-holds

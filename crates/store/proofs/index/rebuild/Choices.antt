@@ -1,3 +1,4 @@
+-- The records before the counter have their slots, and every point is as it was.
 use Rattle.store.specs.Index.{Rehashed}
 use Rattle.store.proofs.index.rebuild.Given as given
 

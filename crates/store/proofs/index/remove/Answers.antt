@@ -1,4 +1,5 @@
-use Rattle.store.proofs.Changes.{dropped}
+-- The last record moves into the place of the one that is dropped.
+use Rattle.store.proofs.Dropping.{dropped}
 use Rattle.store.proofs.index.remove.Needs as need
 
 pub returns : need.returns

@@ -1,5 +1,6 @@
+-- With every slot empty the entries are an index of no records.
 use native.Mathlib.Omega.{arith}
-use Rattle.store.proofs.Changes.{wiped}
+use Rattle.store.proofs.Rehashing.{wiped}
 use Rattle.store.proofs.index.wipe.Needs as need
 
 pub returns : need.returns

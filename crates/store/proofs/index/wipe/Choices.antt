@@ -1,3 +1,4 @@
+-- The slots before the counter are empty, and every point is as it was.
 use Prim.Native.Nat.{ℕ, _<_}
 use mathlib.Core.Path.{_≡_}
 use Rattle.store.specs.Index.{slotAt, pointAt}

@@ -1,3 +1,4 @@
+-- Where there are fewer records than slots, some slot is not taken.
 use native.Mathlib.Omega.{arith}
 use Rattle.store.proofs.Pigeon.{full}
 use Rattle.store.proofs.probe.free.Needs as need

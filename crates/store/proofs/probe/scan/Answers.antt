@@ -1,3 +1,4 @@
+-- A slot leads to a record in use.
 use native.Mathlib.Omega.{arith}
 use Rattle.store.proofs.probe.scan.Needs as need
 

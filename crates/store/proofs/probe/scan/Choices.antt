@@ -1,3 +1,4 @@
+-- No slot that was passed leads to a record with the point.
 use Rattle.store.specs.Index.{Clear}
 use Rattle.store.proofs.probe.scan.Given as given
 

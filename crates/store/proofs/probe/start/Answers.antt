@@ -1,3 +1,4 @@
+-- The start is the hash modulo the number of slots.
 use mathlib.Core.Path.{refl}
 use native.Mathlib.Nat.{mod-lt}
 use Rattle.store.specs.Index.{startOf}

@@ -1,3 +1,4 @@
+-- The slots that were passed are taken.
 use Rattle.store.specs.Index.{Taken}
 use Rattle.store.proofs.probe.vacancy.Given as given
 

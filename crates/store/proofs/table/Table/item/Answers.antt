@@ -1,5 +1,6 @@
+-- The point and the state of a record in use are its item, and past those there is none.
 use native.Mathlib.Omega.{arith}
-use mathlib.Core.Path.{sym, _∙_}
+use mathlib.Core.Path.{sym}
 use Rattle.std.proofs.shelf.Maps.{nth-past}
 use Rattle.store.specs.Layout.{content}
 use Rattle.store.proofs.Once.{sound-of}

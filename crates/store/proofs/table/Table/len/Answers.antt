@@ -1,3 +1,4 @@
+-- There are as many items as records in use.
 use native.Mathlib.Omega.{arith}
 use mathlib.Core.Path.{refl, sym}
 use Rattle.store.proofs.Once.{sound-of}

@@ -1,3 +1,4 @@
+-- An index of no records over any memory is sound.
 use native.Mathlib.Omega.{arith}
 use mathlib.Core.Path.{refl}
 use Rattle.store.specs.Layout.{held}

@@ -1,3 +1,4 @@
+-- A search in the index says whether the point has a state.
 use native.Mathlib.Omega.{arith}
 use Prim.Native.Nat.{ℕ}
 use mathlib.Core.Path.{_≡_}
@@ -6,7 +7,7 @@ use Rattle.std.specs.declared.option.Option.{Option}
 use Rattle.std.specs.declared.option.Option.the-variants.{None, Some}
 use Rattle.store.specs.Index.{Absent, Place}
 use Rattle.store.specs.Items.{look}
-use Rattle.store.specs.Layout.{content, Sound, Found}
+use Rattle.store.specs.Layout.{content, Sound, RecordOf}
 use Rattle.store.specs.declared.table.Table.{Table}
 use Rattle.store.proofs.Once.{sound-of}
 use Rattle.store.proofs.States.{look-absent, found, not-none}
@@ -14,7 +15,7 @@ use Rattle.store.proofs.table.Table.place.Needs as need
 
 -- what a search in the index says of the point
 placed : {S : Type 0} (t : Table S) (p : ℕ) (r : Option ℕ) → Sound t → BySome r (Absent (t .entries .now) (t .used) p) (Place (t .entries .now) (t .used) p)
-    → BySome r (look (content t) p ≡ None) (Found t p)
+    → BySome r (look (content t) p ≡ None) (RecordOf t p)
 placed t p None ok h = look-absent (t .entries .now) (t .records .now) (t .used) p h
 placed t p (Some i) ok h =
     let e = found (t .entries .now) (t .records .now) (t .used) (ok .index) (omega arith) i p (h .0) (h .1) in

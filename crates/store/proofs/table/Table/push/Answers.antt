@@ -1,6 +1,7 @@
+-- The index with one record more and the states with one more written are a sound table again.
 use Prim.Native.Nat.{_+_}
 use native.Mathlib.Omega.{arith}
-use mathlib.Core.Path.{refl, sym, _∙_}
+use mathlib.Core.Path.{refl}
 use Rattle.store.proofs.Once.{sound-of}
 use Rattle.store.proofs.States.{absent-from, look-added, length-held}
 use Rattle.store.proofs.table.Table.push.Needs as need

@@ -1,3 +1,4 @@
+-- A record in use lies in the slice.
 use native.Mathlib.Omega.{arith}
 use Rattle.store.proofs.Once.{sound-of}
 use Rattle.store.proofs.table.Table.state.Needs as need
