@@ -1,7 +1,7 @@
 // What a grid is asked.
 use crate::grid::Grid;
 use crate::record::Record;
-use crate::surplus::halved;
+use hats::multiple::halved;
 use kinds::kind::Kind;
 use points::dimensions::Dims;
 use points::point::level_sum;
@@ -36,7 +36,7 @@ impl<'g, 'm, K: Kind> Grid<'g, 'm, K> {
 // What one record adds to the integral: the surplus of a point in, halved as often as its level sum says.
 fn part<K: Kind>(dims: Dims, point: u32, record: Record<K>) -> Option<K> {
     match record {
-        Record::In(entered) => halved(entered.surplus, level_sum(dims, point) as usize),
+        Record::In(entered) => halved(entered.surplus, level_sum(dims, point)),
         Record::Out(_) => Some(K::zero()),
     }
 }

@@ -2,19 +2,11 @@
 ghost use Prim.Native.Nat.{_≤_};
 use crate::grid::Grid;
 use crate::record::Record;
+use hats::multiple::halved;
 use kinds::kind::Kind;
 use points::axis::Coordinate;
 use points::point::coordinates;
 use points::point::number_of;
-
-/// A value halved so often, or nothing where a half is missing.
-pub(crate) fn halved<K: Kind>(value: K, times: usize) -> Option<K> {
-    let mut half = value;
-    for _ in 0..times {
-        half = half.half()?;
-    }
-    Some(half)
-}
 
 /// A point that comes in, and its sample.
 #[derive(Clone, Copy)]
@@ -33,7 +25,7 @@ fn sample_of<K: Kind>(record: Option<Record<K>>) -> K {
 }
 
 /// What one way adds: the sample found, halved once for each direction moved, and negated if these are odd in number.
-fn term<K: Kind>(sample: K, moves: usize) -> Option<K> {
+fn term<K: Kind>(sample: K, moves: u32) -> Option<K> {
     let part = halved(sample, moves)?;
     if moves % 2 == 1 {
         part.negative()
@@ -63,7 +55,7 @@ impl<'g, 'm, K: Kind> Grid<'g, 'm, K> {
 
     /// The sum of all ways to stay or to go to a neighbour in each direction from `direction` on, from a place that is so
     /// many moves away. A way that meets the border adds nothing.
-    fn ways(&self, arrival: Arrival<K>, direction: usize, place: [u8; 4], moves: usize) -> Option<K>
+    fn ways(&self, arrival: Arrival<K>, direction: usize, place: [u8; 4], moves: u32) -> Option<K>
         requires { ⌜ moves ≤ direction ⌝ }
     {
         if direction >= usize::from(self.dims.count()) || direction >= 4 {

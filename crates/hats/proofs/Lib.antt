@@ -1,0 +1,4 @@
+pub mod Hats
+pub mod Sizes
+pub mod Terms
+pub mod Multiples
