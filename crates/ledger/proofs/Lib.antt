@@ -1,10 +1,16 @@
 pub mod Lists
 pub mod Places
+pub mod Known
 pub mod Steps
+pub mod Refused
 pub mod Entries
 pub mod Holdings
 pub mod Tickets
+pub mod Lawful
+pub mod Sources
+pub mod Counts
 pub mod Soundness
 pub mod Sampled
+pub mod Agreement
 pub mod Theorem
 pub mod Worked

@@ -1,16 +1,17 @@
 -- Lists: what tests say of their elements, what a filter keeps, and lists with the same elements.
-use mathlib.Core.Path.{_≡_, refl, sym, ap, ap₂, _∙_, subst}
+use mathlib.Core.Path.{_≡_, refl, sym, ap, _∙_, subst}
 use mathlib.Core.Logic.{_⊎_, inl, inr}
-use mathlib.Core.Bool.{Bool, true, false, cond, _&&_, _||_}
+use mathlib.Core.Bool.{Bool, true, false, cond}
 use mathlib.Core.List.{List, [], _∷_, map}
 use Prim.Native.Nat.{ℕ, suc, _≤_}
 use native.Mathlib.Omega.{arith}
 use lib.ListN.{length}
-use Rattle.std.specs.shelf.Lists.{kept-by, joined}
+use Rattle.std.specs.shelf.Lists.{kept-by, countBy}
+use Rattle.std.proofs.shelf.Sums.{length-kept-by}
 use Rattle.std.proofs.shelf.Tests.{both-ways, and-parts, or-parts, cases-bool}
 use Rattle.points.specs.Points.{every}
 use Rattle.basis.specs.Lists.{Is-in, All-distinct, Same-set}
-use Rattle.basis.proofs.Lists.{listed-left, listed-right, map-listed}
+use Rattle.basis.proofs.Lists.{map-listed}
 use Rattle.ledger.specs.Ledger.{any}
 
 pub every-has : (f : ℕ → Bool) (ns : List ℕ) → every f ns ≡ true → (n : ℕ) → Is-in n ns → f n ≡ true
@@ -31,11 +32,6 @@ any-has f ns n h e = go (cases-bool (any f ns))
     go : (any f ns ≡ true) ⊎ (any f ns ≡ false) → any f ns ≡ true
     go (inl a) = a
     go (inr b) = absurd (both-ways (f n) (any-none f ns b n h) e)
-
-pub joined-has : {X A : Type 0} (f : X → List A) (x : X) (a : A) (xs : List X) → Is-in x xs → Is-in a (f x) → Is-in a (joined f xs)
-joined-has f x a [] h g = absurd h
-joined-has f x a (y ∷ xs) (inl e) g = listed-left a (f y) _ (subst (λ z. Is-in a (f z)) e g)
-joined-has f x a (y ∷ xs) (inr h) g = listed-right a (f y) _ (joined-has f x a xs h g)
 
 -- a filter
 module _ {X : Type 0} (f : X → Bool) where
@@ -105,6 +101,13 @@ module _ {X : Type 0} where
       let m = h x (inl refl) in
       let l = without-length x ys m in
       let i = shorter xs (without x ys m) (d .1) (λ z k. without-has x z ys m (h z (inr k)) (λ e. d .0 (subst (λ w. Is-in w xs) e k))) in
+      omega arith
+
+  -- so no more elements of a list pass a test than are listed
+  pub count-at-most : (f : X → Bool) (xs ys : List X) → All-distinct xs → ((x : X) → Is-in x xs → f x ≡ true → Is-in x ys) → countBy f xs ≤ length ys
+  count-at-most f xs ys d h =
+      let l = length-kept-by f xs in
+      let s = shorter (kept-by f xs) ys (kept-distinct f xs d) (λ x m. let w = kept-only f xs x m in h x (w .0) (w .1)) in
       omega arith
 
   pub same-length : (xs ys : List X) → All-distinct xs → All-distinct ys → Same-set xs ys → length xs ≡ length ys

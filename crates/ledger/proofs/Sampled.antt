@@ -1,24 +1,22 @@
 -- The laws of the basis at a sound ledger.
-use mathlib.Core.Path.{_≡_, refl, sym, ap, ap₂, _∙_, subst}
-use mathlib.Core.Bool.{Bool, true, false, not}
-use mathlib.Core.List.{List, [], _∷_, _++_}
-use Prim.Native.Nat.{ℕ, _+_, _-_, _*_, _≤_}
+use mathlib.Core.Path.{_≡_, sym, ap, ap₂, _∙_, subst}
+use mathlib.Core.List.{List}
+use Prim.Native.Nat.{ℕ, _-_, _*_, _≤_}
 use native.Mathlib.Omega.{arith}
 use Rattle.std.specs.declared.option.Option.the-variants.{None}
-use Rattle.std.specs.shelf.Lists.{kept-by}
 use Rattle.std.proofs.shelf.Tests.{lt-ltb, le-ltb, not-from-true}
 use Rattle.kinds.specs.Group.{Group, Laws, doubled}
 use Rattle.kinds.specs.Halving.{Halving, Fits}
 use Rattle.points.specs.Points.{coords, number, level-sum, parents}
 use Rattle.points.specs.Refusals.{first}
 use Rattle.points.proofs.Points.{numbered}
-use Rattle.basis.specs.Lists.{Is-in, All-distinct, Same-set}
-use Rattle.basis.specs.Sums.{sum-over, taken}
-use Rattle.basis.specs.Axis.{Axis, four-axes}
+use Rattle.basis.specs.Lists.{Is-in, Same-set}
+use Rattle.basis.specs.Sums.{taken}
+use Rattle.basis.specs.Axis.{Axis}
 use Rattle.basis.specs.Grid as grid
 use Rattle.basis.specs.Grid.{Inside, places, exponents, numerators}
 use Rattle.basis.specs.Surplus.{surplus}
-use Rattle.basis.specs.Interpolant.{value, Meets}
+use Rattle.basis.specs.Interpolant.{value}
 use Rattle.basis.specs.Laws.{Sampled, Shallow}
 use Rattle.basis.specs.Numbers.{Same-by-number}
 use Rattle.basis.specs.Shapes.{Inner-places}
@@ -28,20 +26,22 @@ use Rattle.basis.proofs.Lists.{listed-map}
 use Rattle.basis.proofs.Local.{order-free}
 use Rattle.basis.proofs.Numbers.{numbers-agree}
 use Rattle.basis.proofs.Theorems.{reconstruction, existence, uniqueness, integration}
-use Rattle.ledger.specs.Ledger.{entered, Ledger, is-in, inner-places, no-place}
-use Rattle.ledger.specs.Questions.{told, reply, point-in-causes, points-in, count-of, sample-or, sample-at, samples, surpluses, surplus-at, value-at, integral-of, ask-sample, ask-surplus, ask-value}
-use Rattle.ledger.specs.Interpolation.{Lists, Interpolates, Sole-coefficients}
+use Rattle.ledger.specs.Ledger.{Ledger, is-in, axes-of, inner-places, no-place}
+use Rattle.ledger.specs.Questions.{reply, point-in-causes, points-in, count-of, sample-or, sample-at, samples, surpluses, surplus-at, value-at, integral-of, ask-sample, ask-surplus, ask-value}
+use Rattle.ledger.specs.Interpolation.{Listing, Interpolates, Sole-coefficients}
 use Rattle.ledger.specs.Sound.{Sound, In}
 use Rattle.ledger.proofs.Lists.{kept-only, kept-all, kept-distinct, same-length}
 use Rattle.ledger.proofs.Places.{point-place, parent-inside}
-use Rattle.ledger.proofs.Steps.{none-first, first-none, entered-in, in-entered, taken-in}
-use Rattle.ledger.proofs.Soundness.{Lawful-point, lawful-point, at-most-four}
+use Rattle.ledger.proofs.Known.{entered-in, in-entered, taken-in}
+use Rattle.ledger.proofs.Steps.{none-first}
+use Rattle.ledger.proofs.Lawful.{Lawful-point}
+use Rattle.ledger.proofs.Lawful as sound
 
 -- two lists of the same points
-lists-same : {M : Type 0} (P : ℕ → M → Type 0) (points others : List (List ℕ)) (u v : List ℕ → M) → Lists P points u → Lists P others v → Same-set points others
-lists-same {M} P points others u v l k = record { there = through points others u v l k; back = through others points v u k l }
+listings-same : {M : Type 0} (P : ℕ → M → Type 0) (points others : List (List ℕ)) (u v : List ℕ → M) → Listing P points u → Listing P others v → Same-set points others
+listings-same {M} P points others u v l k = record { there = through points others u v l k; back = through others points v u k l }
   where
-    through : (xs ys : List (List ℕ)) (f g : List ℕ → M) → Lists P xs f → Lists P ys g → (q : List ℕ) → Is-in q xs → Is-in q ys
+    through : (xs ys : List (List ℕ)) (f g : List ℕ → M) → Listing P xs f → Listing P ys g → (q : List ℕ) → Is-in q xs → Is-in q ys
     through xs ys f g a b q m = let w = a .only q m in subst (λ r. Is-in r ys) (sym (w .2)) (b .all (w .0) (w .1) (w .3))
 
 module _ (G : Group) (laws : Laws G) (H : Halving G) (L : Ledger (G .Member)) (h : Sound (H .fits) L) where
@@ -49,16 +49,16 @@ module _ (G : Group) (laws : Laws G) (H : Halving G) (L : Ledger (G .Member)) (h
   d = L .dims
 
   abbrev ax : List Axis
-  ax = four-axes d
+  ax = axes-of L
 
   low : d ≤ 4
-  low = at-most-four d (h .dimensions)
+  low = sound.low (H .fits) L h
 
   same : Same-by-number d
   same = numbers-agree d low
 
   lawful : (p : ℕ) (x : G .Member) → In L p x → Lawful-point d p
-  lawful p x e = lawful-point d p (h .lawful p (taken-in (L .known p) x e))
+  lawful p x e = sound.lawful (H .fits) L h p (taken-in (L .known p) x e)
 
   inside : (p : ℕ) (x : G .Member) → In L p x → Inside ax (coords p)
   inside p x e = same .inside p (lawful p x e .point)
@@ -71,7 +71,7 @@ module _ (G : Group) (laws : Laws G) (H : Halving G) (L : Ledger (G .Member)) (h
   parent-number p x r e m = subst (Is-in (number r)) (same .parents-of p (lawful p x e .point)) (listed-map number r (grid.parents ax (coords p)) m)
 
   -- any list of the points in is a sampled grid
-  module _ (points : List (List ℕ)) (u : List ℕ → G .Member) (l : Lists (In L) points u) where
+  module _ (points : List (List ℕ)) (u : List ℕ → G .Member) (l : Listing (In L) points u) where
     listed-inside : (q : List ℕ) → Is-in q points → Inside ax q
     listed-inside q m = let w = l .only q m in subst (Inside ax) (sym (w .2)) (inside (w .0) (w .1) (w .3))
 
@@ -97,7 +97,7 @@ module _ (G : Group) (laws : Laws G) (H : Halving G) (L : Ledger (G .Member)) (h
   sample-in p x e = ap (sample-at G L) (numbered .back p (lawful p x e .small)) ∙ ap (sample-or (G .zero)) e
 
   -- the points in are one
-  pub all-in : Lists (In L) (points-in L) (samples G L)
+  pub all-in : Listing (In L) (points-in L) (samples G L)
   unfolding points-in
   all-in = record {
     once = kept-distinct _ (places ax) (inner .distinct);
@@ -126,17 +126,17 @@ module _ (G : Group) (laws : Laws G) (H : Halving G) (L : Ledger (G .Member)) (h
   pub interpolates : Interpolates G H L (In L)
   unfolding ask-value ask-sample reply
   interpolates = record {
-    samples-back = λ p x e. ap₂ reply (in-place p x e) (value-in p x e);
-    samples-told = λ p x e. ap₂ reply (in-point p x e) (unfold sample-at sample-or in ap (sample-or (G .zero)) e);
-    values-told = λ y e. ap (λ v. reply v (value-at G H L y)) e;
-    integral-sums = unfold integral-of inner-places value-at in
+    value-is-sample = λ p x e. ap₂ reply (in-place p x e) (value-in p x e);
+    sample-told = λ p x e. ap₂ reply (in-point p x e) (unfold sample-at sample-or in ap (sample-or (G .zero)) e);
+    value-told = λ y e. ap (λ v. reply v (value-at G H L y)) e;
+    integral-is-sum = unfold integral-of inner-places value-at in
         (integration G laws H d (4 - d) (points-in L) (samples G L) (sampled _ _ all-in) (shallow _ _ all-in)
         ∙ sum-ext G laws (places ax) _ (λ y. value-at G H L (number y)) (λ y m. ap (value G H ax (points-in L) (samples G L)) (sym (same .back y (inner .only y m))))
         ∙ sym (sum-map G laws number (places ax) (value-at G H L)));
   }
 
   -- the surpluses are those of any list of the points in
-  same-surplus : (points : List (List ℕ)) (u : List ℕ → G .Member) → Lists (In L) points u → (q : List ℕ) → Is-in q points → surplus G H ax u q ≡ surpluses G H L q
+  same-surplus : (points : List (List ℕ)) (u : List ℕ → G .Member) → Listing (In L) points u → (q : List ℕ) → Is-in q points → surplus G H ax u q ≡ surpluses G H L q
   same-surplus points u l =
       order-free G laws H d (4 - d) points points u (samples G L) (sampled points u l .grid) (l .once) (record { there = λ q m. m; back = λ q m. m })
       (λ q m. let w = l .only q m in ap u (w .2) ∙ l .sampled (w .0) (w .1) (w .3) ∙ sym (ap (samples G L) (w .2) ∙ sample-in (w .0) (w .1) (w .3)))
@@ -146,9 +146,9 @@ module _ (G : Group) (laws : Laws G) (H : Halving G) (L : Ledger (G .Member)) (h
   unfolding ask-surplus reply count-of surplus-at
   sole = record {
     listed = (points-in L, samples G L, all-in);
-    counted = λ points u l. same-length (points-in L) points (all-in .once) (l .once) (lists-same (In L) _ _ _ _ all-in l);
-    surpluses-told = λ p x e. ap (λ v. reply v (surplus-at G H L p)) (in-point p x e);
-    met = λ points u l p m.
+    counted = λ points u l. same-length (points-in L) points (all-in .once) (l .once) (listings-same (In L) _ _ _ _ all-in l);
+    surplus-told = λ p x e. ap (λ v. reply v (surplus-at G H L p)) (in-point p x e);
+    meet = λ points u l p m.
         sum-ext G laws points _ _ (λ q k. ap (λ c. doubled G (7 * d - exponents ax q) (taken G (numerators ax q p) c)) (sym (same-surplus points u l q k)))
         ∙ existence G laws H d (4 - d) points u (sampled points u l) p m;
     no-other = λ points u l c k p x e.

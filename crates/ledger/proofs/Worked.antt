@@ -1,28 +1,26 @@
 -- The worked courses, computed.
-use mathlib.Core.Path.{_≡_, refl, sym, ap, _∙_}
+use mathlib.Core.Path.{_≡_, refl, ap, _∙_}
 use mathlib.Core.Bool.{Bool, true, false}
-use mathlib.Core.List.{List, [], _∷_, map}
 use Prim.Native.Nat.{ℕ, _+_, _^_, _≤_}
 use native.Mathlib.Omega.{arith}
 use lib.Count.{trailingZeros}
 use lib.Dec.{lit≤}
 use lib.IntN.{ℤ, pos}
 use Rattle.std.proofs.shelf.Signed.{ints}
-use Rattle.kinds.specs.Halving.{Halving, Fits}
+use Rattle.kinds.specs.Halving.{Halving}
 use Rattle.kinds.specs.Integers.{integers, whole-count}
-use Rattle.kinds.specs.Numbers.{In-range}
 use Rattle.kinds.proofs.Integers.{integer-numbers}
 use Rattle.points.specs.Axis.{zeros, width, level, left, right, parent}
 use Rattle.points.specs.Points.{coords, number, every, is-point, level-sum, replaced, parent-in, parents}
 use Rattle.basis.specs.Lists.{before, choices}
 use Rattle.basis.specs.Axis.{down-from, zero-border, trivial, directions}
 use Rattle.basis.specs.Grid.{places}
-use Rattle.ledger.specs.Ledger.{free, Ledger, is-in, is-out-by, put, inner-places, any, filled, has-child, is-held}
-use Rattle.ledger.specs.Calls.{Answer, handed, done, freed, refused, unless, swept, received, step}
+use Rattle.ledger.specs.Ledger.{free, Ledger, is-in, is-out-by, put, inner-places, any, counted, is-held}
+use Rattle.ledger.specs.Calls.{unless, swept, received, step}
 use Rattle.ledger.specs.Making.{make-by, make}
-use Rattle.ledger.specs.Course.{Event, event, history-from, end-from, history, end}
-use Rattle.ledger.proofs.Steps.{put-at}
-use Rattle.ledger.specs.Examples.{middle, ticket, answers, last-number, two-sessions, greatest, too-great, Worked-courses}
+use Rattle.ledger.specs.Course.{event, history-from, end-from}
+use Rattle.ledger.proofs.Known.{put-at}
+use Rattle.ledger.specs.Examples.{middle, answers, Worked-courses}
 
 -- 65,536 and 8 fit
 fits-whole : (H : Halving integers) (n : ℕ) → n ≤ 65536 → H .fits (whole-count (pos n)) ≡ true
@@ -39,7 +37,7 @@ unfolding received
 freed-after L p x b e = ap (λ v. received v L p x .after .known p) e ∙ put-at (L .known) p free p refl
 
 pub worked-courses : (H : Halving integers) → Worked-courses H
-unfolding answers history-from event step unless make make-by is-in is-out-by put is-held filled inner-places every any zeros width level left right parent coords number is-point level-sum replaced parent-in parents before choices down-from zero-border trivial directions places trailingZeros swept received end-from
+unfolding answers history-from event step unless make make-by is-in is-out-by put is-held counted inner-places every any zeros width level left right parent coords number is-point level-sum replaced parent-in parents before choices down-from zero-border trivial directions places trailingZeros swept received end-from
 worked-courses H = record {
   last-number-answers = refl;
   two-sessions-answers = rw (fits-whole H 8 (lit≤ tt));

@@ -5,14 +5,13 @@ use Prim.Native.Nat.{ℕ, suc}
 use lib.Dec.{eqb, leb, ltb}
 use Rattle.std.specs.declared.option.Option.{Option}
 use Rattle.std.specs.declared.option.Option.the-variants.{None, Some}
-use Rattle.std.specs.shelf.Lists.{countBy}
 use Rattle.points.specs.Points.{every, parents}
 use Rattle.points.specs.Refusals.{Cause, cause, first}
 use Rattle.points.specs.declared.refusal.Refusal.{Refusal}
 use Rattle.points.specs.declared.refusal.Refusal.the-variants.{ZeroNumber, Sample, PointIn, PointOut, ParentNotIn, PlacesFull, TicketsSpent, NoSuchTicket, PointNotIn, ChildKnown}
-use Rattle.ledger.specs.Ledger.{Holding, Known, free, drawn, entered, Ledger, Ticket, is-in, is-out-by, is-out, knowing, put, inner-places, filled, has-child, is-held, no-point}
+use Rattle.ledger.specs.Ledger.{Holding, Known, free, drawn, entered, Ledger, Ticket, is-in, is-out-by, is-out, is-taken, knowing, put, counted, has-child, is-held, no-point}
 
--- draw: a point and a session; sweep: a session; remove: a point
+-- A draw names a point and a session, an entry a ticket and a sample, a sweep a session, a removal a point.
 pub data Call (M : Type 0) : Type 0 where
   draw : ℕ → ℕ → Call M
   enter : Ticket → M → Call M
@@ -20,23 +19,24 @@ pub data Call (M : Type 0) : Type 0 where
   sweep : ℕ → Call M
   remove : ℕ → Call M
 
--- an accepted draw hands over a ticket, an accepted sweep tells how many points it frees, and other accepted calls are done
+-- An accepted draw hands over a ticket, an accepted sweep tells how many points it frees, and any other accepted call is done.
 pub data Answer : Type 0 where
   handed : Ticket → Answer
   done : Answer
   freed : ℕ → Answer
   refused : Refusal → Answer
 
+-- what a call answers, and the ledger after it
 pub record Outcome (M : Type 0) : Type 0 where
   pub answer : Answer
   pub after : Ledger M
 
--- a session is not 0
+-- why a session is refused
 abbrev pub session-causes : ℕ → List Cause
 session-causes s = cause ZeroNumber (eqb s 0) ∷ []
 
 module _ {M : Type 0} where
-  -- a refusal leaves the ledger as it was
+  -- the outcome, unless the call is refused, which leaves the ledger as it was
   unfoldable pub unless : Option Refusal → Ledger M → Outcome M → Outcome M
   unless None L o = o
   unless (Some e) L o = record { answer = refused e; after = L }
@@ -49,6 +49,10 @@ module _ {M : Type 0} where
   abbrev pub next-ticket : Ledger M → ℕ → Ticket
   next-ticket L p = record { grid = L .grid; number = L .next; point = p }
 
+  -- what the point is then out under, drawn by the session s
+  abbrev pub next-holding : Ledger M → ℕ → Holding
+  next-holding L s = record { ticket = L .next; session = s }
+
   -- p is out under the next ticket number, which then rises by one
   abbrev pub drawn-next : Ledger M → ℕ → ℕ → Ledger M
   drawn-next L p s = record {
@@ -56,7 +60,7 @@ module _ {M : Type 0} where
     grid = L .grid;
     room = L .room;
     next = suc (L .next);
-    known = put (L .known) p (drawn (record { ticket = L .next; session = s }));
+    known = put (L .known) p (drawn (next-holding L s));
   }
 
   -- out under the session s
@@ -67,6 +71,7 @@ module _ {M : Type 0} where
   unfoldable pub swept : ℕ → Known M → Known M
   swept s k = cond (is-by s k) free k
 
+  -- why a draw is refused
   abbrev pub draw-causes : Ledger M → ℕ → ℕ → List Cause
   draw-causes L p s =
       session-causes s
@@ -74,14 +79,15 @@ module _ {M : Type 0} where
       ++ cause PointIn (is-in (L .known p))
       ∷ cause PointOut (is-out (L .known p))
       ∷ cause ParentNotIn (not (every (λ q. is-in (L .known q)) (parents p)))
-      ∷ cause PlacesFull (leb (L .room) (filled L))
+      ∷ cause PlacesFull (leb (L .room) (counted is-taken L))
       ∷ cause TicketsSpent (ltb 4294967295 (L .next))
       ∷ []
 
-  -- no point is out under this ticket
+  -- why a ticket is refused
   abbrev pub ticket-causes : Ledger M → Ticket → List Cause
   ticket-causes L t = cause NoSuchTicket (not (is-held L t)) ∷ []
 
+  -- why a removal is refused
   abbrev pub remove-causes : Ledger M → ℕ → List Cause
   remove-causes L p = no-point (L .dims) p ++ cause PointNotIn (not (is-in (L .known p))) ∷ cause ChildKnown (has-child L p) ∷ []
 
@@ -95,10 +101,5 @@ module _ {M : Type 0} where
   step fits L (draw p s) = unless (first (draw-causes L p s)) L (record { answer = handed (next-ticket L p); after = drawn-next L p s })
   step fits L (enter t x) = unless (first (ticket-causes L t)) L (received (fits x) L (t .point) x)
   step fits L (withdraw t) = unless (first (ticket-causes L t)) L (record { answer = done; after = with-point L (t .point) free })
-  step fits L (sweep s) =
-      unless (first (session-causes s)) L
-      (record {
-        answer = freed (countBy (λ q. is-by s (L .known q)) (inner-places (L .dims)));
-        after = knowing L (λ q. swept s (L .known q));
-      })
+  step fits L (sweep s) = unless (first (session-causes s)) L (record { answer = freed (counted (is-by s) L); after = knowing L (λ q. swept s (L .known q)) })
   step fits L (remove p) = unless (first (remove-causes L p)) L (record { answer = done; after = with-point L p free })

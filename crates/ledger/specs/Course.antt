@@ -10,6 +10,7 @@ pub record Event (M : Type 0) : Type 0 where
   pub call : Call M
   pub answer : Answer
 
+-- the figures of the grid, and the calls
 pub record Course (M : Type 0) : Type 0 where
   pub figures : Figures
   pub calls : List (Call M)

@@ -60,15 +60,20 @@ module _ {M : Type 0} (fits : M → Bool) where
 
 -- All guarantees. What is in, and with which sample, is read off the history.
 pub record Guarantees (G : Group) (H : Halving G) : Type 0 where
+  -- The ledger at the end of a course is what its history says.
   pub true-to-history : (c : Course (G .Member)) → True-to-history (H .fits) c
+  -- At each point in, the value is the sample last entered there, and the integral comes from the values at all inner places.
   pub interpolates : (c : Course (G .Member)) → Interpolates G H (end (H .fits) c) (Last-entered (history (H .fits) c))
+  -- The surpluses meet all samples, and no other coefficients do.
   pub sole : (c : Course (G .Member)) → Sole-coefficients G H (end (H .fits) c) (Last-entered (history (H .fits) c))
+  -- Two courses in as many dimensions, with the same points in and equal samples at their ends, end in equal surpluses, values and integral.
   pub agree :
       (b c : Course (G .Member))
       → Alike (end (H .fits) b) (end (H .fits) c) (Last-entered (history (H .fits) b)) (Last-entered (history (H .fits) c))
       → Agree G H (end (H .fits) b) (end (H .fits) c)
+  -- A point is out from its draw until its ticket ends, and the ticket is good for just as long.
   pub tickets : Tickets-hold (H .fits)
 
--- whatever halving does off doubles
+-- The guarantees of a group, whatever halving does off doubles.
 abbrev pub Every-course : Group → Type 0
 Every-course G = (H : Halving G) → Guarantees G H

@@ -10,35 +10,34 @@ use Rattle.points.specs.Points.{coords}
 use Rattle.points.specs.Refusals.{first}
 use Rattle.basis.specs.Lists.{Is-in, All-distinct}
 use Rattle.basis.specs.Sums.{sum-over}
-use Rattle.basis.specs.Axis.{four-axes}
 use Rattle.basis.specs.Interpolant.{Meets}
-use Rattle.ledger.specs.Ledger.{Ledger, inner-places, no-place}
+use Rattle.ledger.specs.Ledger.{Ledger, inner-places, axes-of, no-place}
 use Rattle.ledger.specs.Questions.{told, count-of, surpluses, surplus-at, value-at, integral-of, ask-sample, ask-surplus, ask-value}
 
 -- points are the coordinates of the points in, each once, and u has their samples
-pub record Lists {M : Type 0} (In : ℕ → M → Type 0) (points : List (List ℕ)) (u : List ℕ → M) : Type 0 where
+pub record Listing {M : Type 0} (In : ℕ → M → Type 0) (points : List (List ℕ)) (u : List ℕ → M) : Type 0 where
   pub once : All-distinct points
   pub only : (q : List ℕ) → Is-in q points → (p : ℕ) × (x : M) × (q ≡ coords p) × In p x
   pub all : (p : ℕ) (x : M) → In p x → Is-in (coords p) points
   pub sampled : (p : ℕ) (x : M) → In p x → u (coords p) ≡ x
 
 module _ (G : Group) (H : Halving G) where
-  -- At each point in, the value is its sample. Each place has a value. The integral doubled 7·d times is the sum of the values at all inner places.
+  -- At each point in, the value is its sample. Every place is told its value. The integral doubled 7·d times is the sum of the values at all inner places.
   pub record Interpolates (L : Ledger (G .Member)) (In : ℕ → G .Member → Type 0) : Type 0 where
-    pub samples-back : (p : ℕ) (x : G .Member) → In p x → ask-value G H L p ≡ told x
-    pub samples-told : (p : ℕ) (x : G .Member) → In p x → ask-sample G H L p ≡ told x
-    pub values-told : (y : ℕ) → first (no-place (L .dims) y) ≡ None → ask-value G H L y ≡ told (value-at G H L y)
-    pub integral-sums : doubled G (7 * L .dims) (integral-of G H L) ≡ sum-over G (inner-places (L .dims)) (value-at G H L)
+    pub value-is-sample : (p : ℕ) (x : G .Member) → In p x → ask-value G H L p ≡ told x
+    pub sample-told : (p : ℕ) (x : G .Member) → In p x → ask-sample G L p ≡ told x
+    pub value-told : (y : ℕ) → first (no-place (L .dims) y) ≡ None → ask-value G H L y ≡ told (value-at G H L y)
+    pub integral-is-sum : doubled G (7 * L .dims) (integral-of G H L) ≡ sum-over G (inner-places (L .dims)) (value-at G H L)
 
   -- The surpluses meet all samples, and no other coefficients do. The points in can be listed, and the order is free.
   pub record Sole-coefficients (L : Ledger (G .Member)) (In : ℕ → G .Member → Type 0) : Type 0 where
-    pub listed : (points : List (List ℕ)) × (u : List ℕ → G .Member) × Lists In points u
-    pub counted : (points : List (List ℕ)) (u : List ℕ → G .Member) → Lists In points u → count-of L ≡ length points
-    pub surpluses-told : (p : ℕ) (x : G .Member) → In p x → ask-surplus G H L p ≡ told (surplus-at G H L p)
-    pub met : (points : List (List ℕ)) (u : List ℕ → G .Member) → Lists In points u → Meets G (four-axes (L .dims)) (7 * L .dims) points u (surpluses G H L)
+    pub listed : (points : List (List ℕ)) × (u : List ℕ → G .Member) × Listing In points u
+    pub counted : (points : List (List ℕ)) (u : List ℕ → G .Member) → Listing In points u → count-of L ≡ length points
+    pub surplus-told : (p : ℕ) (x : G .Member) → In p x → ask-surplus G H L p ≡ told (surplus-at G H L p)
+    pub meet : (points : List (List ℕ)) (u : List ℕ → G .Member) → Listing In points u → Meets G (axes-of L) (7 * L .dims) points u (surpluses G H L)
     pub no-other :
-        (points : List (List ℕ)) (u : List ℕ → G .Member) → Lists In points u
-        → (c : List ℕ → G .Member) → Meets G (four-axes (L .dims)) (7 * L .dims) points u c
+        (points : List (List ℕ)) (u : List ℕ → G .Member) → Listing In points u
+        → (c : List ℕ → G .Member) → Meets G (axes-of L) (7 * L .dims) points u c
         → (p : ℕ) (x : G .Member) → In p x → c (coords p) ≡ surplus-at G H L p
 
   -- Two ledgers answer the same: equal surpluses, equal values at all places, equal integrals.

@@ -1,22 +1,21 @@
 -- The ledger of a grid: which points are in, with their samples, and which are out, under which tickets.
 use mathlib.Core.Bool.{Bool, true, false, cond, not, _&&_, _||_}
 use mathlib.Core.List.{List, [], _∷_, map}
-use mathlib.Core.Path.{_≡_}
 use Prim.Native.Nat.{ℕ, _^_}
 use lib.Dec.{eqb, ltb}
 use Rattle.std.specs.shelf.Lists.{countBy}
 use Rattle.points.specs.Points.{number, parents, point-causes, place-causes}
 use Rattle.points.specs.Refusals.{Cause, cause}
 use Rattle.points.specs.declared.refusal.Refusal.the-variants.{Coordinate}
-use Rattle.basis.specs.Axis.{four-axes}
+use Rattle.basis.specs.Axis.{Axis, four-axes}
 use Rattle.basis.specs.Grid.{places}
 
--- under what a point is out
+-- under what a point is out: the ticket number, and the session that drew it
 pub record Holding : Type 0 where
   pub ticket : ℕ
   pub session : ℕ
 
--- what is known of a point: nothing, or it is out, or in with a sample. M are the samples.
+-- what is known of a point: it is free, or out, or in with a sample. M are the samples.
 pub data Known (M : Type 0) : Type 0 where
   free : Known M
   drawn : Holding → Known M
@@ -35,6 +34,15 @@ pub record Ticket : Type 0 where
   pub grid : ℕ
   pub number : ℕ
   pub point : ℕ
+
+-- all 127^d inner places, by number
+unfoldable pub inner-places : ℕ → List ℕ
+inner-places d = map number (places (four-axes d))
+
+-- some element passes the test
+unfoldable pub any : (ℕ → Bool) → List ℕ → Bool
+any f [] = false
+any f (n ∷ ns) = f n || any f ns
 
 module _ {M : Type 0} where
   -- in
@@ -57,27 +65,21 @@ module _ {M : Type 0} where
   abbrev pub is-taken : Known M → Bool
   is-taken k = is-in k || is-out k
 
-  -- the ledger with another knowledge of points
+  -- the axes of the grid
+  abbrev pub axes-of : Ledger M → List Axis
+  axes-of L = four-axes (L .dims)
+
+  -- the same ledger, but for what is known of points
   abbrev pub knowing : Ledger M → (ℕ → Known M) → Ledger M
   knowing L f = record { dims = L .dims; grid = L .grid; room = L .room; next = L .next; known = f }
 
-  -- the same, but for k at the point p
+  -- the same knowledge, but for k at the point p
   unfoldable pub put : (ℕ → Known M) → ℕ → Known M → ℕ → Known M
   put f p k q = cond (eqb q p) k (f q)
 
--- all 127^d inner places, by number
-unfoldable pub inner-places : ℕ → List ℕ
-inner-places d = map number (places (four-axes d))
-
--- some element passes the test
-unfoldable pub any : (ℕ → Bool) → List ℕ → Bool
-any f [] = false
-any f (n ∷ ns) = f n || any f ns
-
-module _ {M : Type 0} where
-  -- the number of points in and out
-  unfoldable pub filled : Ledger M → ℕ
-  filled L = countBy (λ q. is-taken (L .known q)) (inner-places (L .dims))
+  -- the number of points of which what is known passes the test
+  unfoldable pub counted : (Known M → Bool) → Ledger M → ℕ
+  counted f L = countBy (λ q. f (L .known q)) (inner-places (L .dims))
 
   -- some child of p is in or out: a point of which p is a parent
   unfoldable pub has-child : Ledger M → ℕ → Bool

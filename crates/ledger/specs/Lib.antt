@@ -1,5 +1,6 @@
 pub mod Ledger
 pub mod Calls
+pub mod Refused
 pub mod Making
 pub mod Questions
 pub mod Course

@@ -12,17 +12,17 @@ use Rattle.points.specs.Points.{coords, number}
 use Rattle.points.specs.Refusals.{Cause, cause, first}
 use Rattle.points.specs.declared.refusal.Refusal.{Refusal}
 use Rattle.points.specs.declared.refusal.Refusal.the-variants.{PointNotIn}
-use Rattle.basis.specs.Axis.{four-axes}
 use Rattle.basis.specs.Grid.{places}
 use Rattle.basis.specs.Surplus.{surplus}
 use Rattle.basis.specs.Interpolant.{value, integral}
-use Rattle.ledger.specs.Ledger.{Known, free, drawn, entered, Ledger, is-in, no-point, no-place}
+use Rattle.ledger.specs.Ledger.{Known, free, drawn, entered, Ledger, is-in, axes-of, no-point, no-place}
 
--- a question is answered or refused
+-- a question is told its answer, or denied it
 pub data Reply (M : Type 0) : Type 0 where
   told : M → Reply M
   denied : Refusal → Reply M
 
+-- the answer x, unless there is a refusal
 unfoldable pub reply : {M : Type 0} → Option Refusal → M → Reply M
 reply None x = told x
 reply (Some e) x = denied e
@@ -33,9 +33,9 @@ point-in-causes L p = no-point (L .dims) p ++ cause PointNotIn (not (is-in (L .k
 
 -- the points in, as lists of coordinates
 unfoldable pub points-in : {M : Type 0} → Ledger M → List (List ℕ)
-points-in L = kept-by (λ q. is-in (L .known (number q))) (places (four-axes (L .dims)))
+points-in L = kept-by (λ q. is-in (L .known (number q))) (places (axes-of L))
 
--- how many points are in
+-- how many points are in, which is never refused
 unfoldable pub count-of : {M : Type 0} → Ledger M → ℕ
 count-of L = length (points-in L)
 
@@ -53,25 +53,31 @@ sample-at G L p = sample-or (G .zero) (L .known p)
 abbrev pub samples : (G : Group) → Ledger (G .Member) → List ℕ → G .Member
 samples G L q = sample-at G L (number q)
 
+-- the sample, asked for
+unfoldable pub ask-sample : (G : Group) → Ledger (G .Member) → ℕ → Reply (G .Member)
+ask-sample G L p = reply (first (point-in-causes L p)) (sample-at G L p)
+
 module _ (G : Group) (H : Halving G) where
   -- the surpluses by coordinates
   abbrev pub surpluses : Ledger (G .Member) → List ℕ → G .Member
-  surpluses L = surplus G H (four-axes (L .dims)) (samples G L)
+  surpluses L = surplus G H (axes-of L) (samples G L)
 
+  -- the surplus of a point
   unfoldable pub surplus-at : Ledger (G .Member) → ℕ → G .Member
   surplus-at L p = surpluses L (coords p)
 
+  -- the value at a place
   unfoldable pub value-at : Ledger (G .Member) → ℕ → G .Member
-  value-at L y = value G H (four-axes (L .dims)) (points-in L) (samples G L) (coords y)
+  value-at L y = value G H (axes-of L) (points-in L) (samples G L) (coords y)
 
+  -- the integral, which is never refused
   unfoldable pub integral-of : Ledger (G .Member) → G .Member
-  integral-of L = integral G H (four-axes (L .dims)) (points-in L) (samples G L)
+  integral-of L = integral G H (axes-of L) (points-in L) (samples G L)
 
-  unfoldable pub ask-sample : Ledger (G .Member) → ℕ → Reply (G .Member)
-  ask-sample L p = reply (first (point-in-causes L p)) (sample-at G L p)
-
+  -- the surplus, asked for
   unfoldable pub ask-surplus : Ledger (G .Member) → ℕ → Reply (G .Member)
   ask-surplus L p = reply (first (point-in-causes L p)) (surplus-at L p)
 
+  -- the value, asked for
   unfoldable pub ask-value : Ledger (G .Member) → ℕ → Reply (G .Member)
   ask-value L y = reply (first (no-place (L .dims) y)) (value-at L y)
