@@ -14,17 +14,6 @@ use super::table::Table;
 use super::table::room_for;
 
 impl<'m, S: Copy> Table<'m, S> {
-    fn clear(&mut self)
-        requires { ⌜ Kept (now self) ⌝ }
-        ensures sound { λ _. ⌜ Kept (now (self .exit)) ⌝ }
-        ensures empty { λ _. ⌜ content (now (self .exit)) ≡ [] ⌝ }
-        ensures room { λ _. ⌜ now (self .exit) .room ≡ now (self .entry) .room ⌝ }
-    {
-        index::wipe(self.entries);
-        self.used = 0;
-        self.worn = 0;
-    }
-
     fn reset(&mut self, room: usize)
         ensures sound { λ _. ⌜ Kept (now (self .exit)) ⌝ }
         ensures empty { λ _. ⌜ content (now (self .exit)) ≡ [] ⌝ }
@@ -69,6 +58,7 @@ impl<'m, S: Copy> Store<'m, S> {
         ensures none { λ _. ⌜ ((q : ℕ) → status (now (self .exit)) q ≡ None) ⌝ }
         ensures room { λ _. ⌜ capacity (now (self .exit)) ≡ capacity (now (self .entry)) ⌝ }
     {
-        self.table.clear()
+        let capacity = self.table.capacity();
+        self.table.reset(capacity)
     }
 }
