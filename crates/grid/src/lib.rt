@@ -1,4 +1,6 @@
 // A sparse grid over memory that the caller lends.
+#![tactic(auto)]
+
 pub mod grid;
 pub mod making;
 pub mod putting;

@@ -1,4 +1,6 @@
 // Reads a grid text from standard input, and prints the integral of its grid or why it is refused.
+#![tactic(auto)]
+
 use report::report::printed;
 use std::io::Read;
 

@@ -1,4 +1,6 @@
 // Kinds of value: one interface, and three kinds that implement it.
+#![tactic(auto)]
+
 pub mod dyadic;
 pub mod examples;
 pub mod kind;

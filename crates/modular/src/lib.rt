@@ -1,4 +1,6 @@
 // A kind of value from outside the library: counts modulo 1,000,003, and a grid over them.
+#![tactic(auto)]
+
 ghost use Rattle.kinds.specs.Residues.{class, residues, whole_residue};
 ghost use Rattle.modular.specs.Million.{million};
 ghost use Rattle.kinds.specs.ResiduesLemmas.{residue_laws, residue_unique, residue_halving, residue_numbers};

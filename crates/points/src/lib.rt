@@ -1,4 +1,6 @@
 // Coordinates, points and places of a sparse grid, and the refusals of the whole library.
+#![tactic(auto)]
+
 pub mod axis;
 pub mod dimensions;
 pub mod examples;

@@ -1,4 +1,6 @@
 // What the program `integrate` prints for an input.
+#![tactic(auto)]
+
 pub mod lowest;
 pub mod report;
 #[cfg(test)]

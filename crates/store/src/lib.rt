@@ -1,5 +1,7 @@
 // A finite map from 32-bit point numbers to states, over two slices that the caller lends: one of records, which are the
 // states, and one of lookup entries. It allocates nothing.
+#![tactic(auto)]
+
 ghost use Rattle.store.specs.Layout.{Kept};
 
 use table::Table;

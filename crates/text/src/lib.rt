@@ -1,4 +1,6 @@
 // The tokens of a grid text, and the numbers that its numerals write.
+#![tactic(auto)]
+
 pub mod lexer;
 pub mod number;
 mod numeral;

@@ -1,4 +1,6 @@
 // Runs the report on many texts, each of which a `~` and a line end follow on standard input.
+#![tactic(auto)]
+
 use report::report::printed;
 use std::io::Read;
 

@@ -4,4 +4,4 @@ use Rattle.points.proofs.axis.level_of.Goals as goal
 
 pub returns : goal.returns
 unfolding zeros level
-returns c = c.saturating-sub.ensures
+returns c = c.saturating_sub.ensures

@@ -6,18 +6,18 @@ use Rattle.points.specs.declared.refusal.Refusal.TheVariants.{Coordinate, LevelS
 use Rattle.points.proofs.Causes.{here, later}
 use Rattle.points.proofs.point.check_point.Goals as goal
 
-pub returns-then-not-is-shaped : goal.returns-then-not-is-shaped
+pub returns-then-not-is_shaped : goal.returns-then-not-is_shaped
 unfolding is_point
-returns-then-not-is-shaped c = here Coordinate _ _ (ap not (sym c.if-not-is-shaped.ensures))
+returns-then-not-is_shaped c = here Coordinate _ _ (ap not (sym c.if-not-is_shaped.ensures))
 
-pub returns-then-level-sum-gt-LEVEL-SUM-LIMIT : goal.returns-then-level-sum-gt-LEVEL-SUM-LIMIT
+pub returns-then-level_sum-gt-LEVEL_SUM_LIMIT : goal.returns-then-level_sum-gt-LEVEL_SUM_LIMIT
 unfolding is_point
-returns-then-level-sum-gt-LEVEL-SUM-LIMIT c =
+returns-then-level_sum-gt-LEVEL_SUM_LIMIT c =
     let sum = c.level_sum.ensures in
-    later Coordinate _ _ (ap not (sym c.if-not-is-shaped.ensures)) (here LevelSum _ _ (lt-ltb 16 (level_sum c.args.dims.count c.args.point) (omega arith)))
+    later Coordinate _ _ (ap not (sym c.if-not-is_shaped.ensures)) (here LevelSum _ _ (lt-ltb 16 (level_sum c.args.dims.count c.args.point) (omega arith)))
 
 pub returns : goal.returns
 unfolding is_point
 returns c =
     let sum = c.level_sum.ensures in
-    later Coordinate _ _ (ap not (sym c.if-not-is-shaped.ensures)) (later LevelSum _ _ (le-ltb 16 (level_sum c.args.dims.count c.args.point) (omega arith)) refl)
+    later Coordinate _ _ (ap not (sym c.if-not-is_shaped.ensures)) (later LevelSum _ _ (le-ltb 16 (level_sum c.args.dims.count c.args.point) (omega arith)) refl)

@@ -10,23 +10,23 @@ use Rattle.points.proofs.point.children_in.Goals as goal
 abbrev both : ℕ → ℕ → ℕ × ℕ → ℕ × ℕ
 both i p q = (replaced i p q.0, replaced i p q.1)
 
-pub returns-in-err-coordinate-in : goal.returns-in-err-coordinate-in
+pub returns-in_err-coordinate_in : goal.returns-in_err-coordinate_in
 unfolding children_in
-returns-in-err-coordinate-in c =
+returns-in_err-coordinate_in c =
     let k = coord_in c.args.direction c.args.point in
-    c.from-residual.ensures ∙ ap (option_map (both c.args.direction c.args.point)) (sym (no_children k (not_inner k c.in-err-coordinate-in.ensures)))
+    c.from_residual.ensures ∙ ap (option_map (both c.args.direction c.args.point)) (sym (no_children k (not_inner k c.in_err-coordinate_in.ensures)))
 
-pub returns-in-err-left : goal.returns-in-err-left
+pub returns-in_err-left : goal.returns-in_err-left
 unfolding children_in
-returns-in-err-left c =
+returns-in_err-left c =
     let k = coord_in c.args.direction c.args.point in
-    c.from-residual-in-err-left.ensures
-    ∙ found_at children (both c.args.direction c.args.point) k c.in-ok-coordinate-in.field-0.value None c.in-ok-coordinate-in.ensures c.in-err-left.ensures
+    c.from_residual-in_err-left.ensures
+    ∙ found_at children (both c.args.direction c.args.point) k c.in_ok-coordinate_in.field-0.value None c.in_ok-coordinate_in.ensures c.in_err-left.ensures
 
 pub returns : goal.returns
 unfolding children_in
 returns c =
     let k = coord_in c.args.direction c.args.point in
-    let pair : ℕ × ℕ = (c.in-ok-left.left.value, c.in-ok-left.right.value) in
-    ap₂ (λ l r. Some (l, r)) c.with-coordinate.ensures c.with-coordinate-2.ensures
-    ∙ found_at children (both c.args.direction c.args.point) k c.in-ok-coordinate-in.field-0.value (Some pair) c.in-ok-coordinate-in.ensures c.in-ok-left.ensures
+    let pair : ℕ × ℕ = (c.in_ok-left.left.value, c.in_ok-left.right.value) in
+    ap₂ (λ l r. Some (l, r)) c.with_coordinate.ensures c.with_coordinate-2.ensures
+    ∙ found_at children (both c.args.direction c.args.point) k c.in_ok-coordinate_in.field-0.value (Some pair) c.in_ok-coordinate_in.ensures c.in_ok-left.ensures

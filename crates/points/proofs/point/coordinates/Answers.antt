@@ -4,4 +4,4 @@ use Rattle.points.proofs.point.coordinates.Goals as goal
 
 pub returns : goal.returns
 unfolding coords
-returns c = c.to-be-bytes.ensures
+returns c = c.to_be_bytes.ensures

@@ -4,4 +4,4 @@ use Rattle.points.proofs.Points.{number_four}
 use Rattle.points.proofs.point.number_of.Goals as goal
 
 pub returns : goal.returns
-returns c = c.from-be-bytes.ensures ∙ sym (number_four c.args.coordinates (search rules))
+returns c = c.from_be_bytes.ensures ∙ sym (number_four c.args.coordinates (search rules))

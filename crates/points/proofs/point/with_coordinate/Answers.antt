@@ -15,4 +15,4 @@ returns c =
       | then-direction-lt4 w ↦ w.all-is ∙ ap₂ (λ ks v. set ks i v) own w.get.ensures
       | else-direction-lt4 w ↦ w.all-is ∙ own ∙ sym (set_past (coords c.args.point) i k w.if-direction-lt4.false)
     ] in
-    c.number-of.ensures ∙ ap number became
+    c.number_of.ensures ∙ ap number became

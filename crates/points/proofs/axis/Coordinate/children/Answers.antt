@@ -6,14 +6,14 @@ use Rattle.points.proofs.axis.Coordinate.children.Goals as goal
 pub returns-then-width-lt2 : goal.returns-then-width-lt2
 returns-then-width-lt2 c = none_below c.args.self.value (omega arith)
 
-pub overflow-sub-left : goal.overflow-sub-left
-overflow-sub-left c = let k = c.args.self.value in omega (arith, (fits k (bounds_inner k c.args.self.inside)).1.0)
+pub overflow_sub-left : goal.overflow_sub-left
+overflow_sub-left c = let k = c.args.self.value in omega (arith, (fits k (bounds_inner k c.args.self.inside)).1.0)
 
-pub invariant-of-left : goal.invariant-of-left
-invariant-of-left c = let k = c.args.self.value in let f = (fits k (bounds_inner k c.args.self.inside)).1 in ((omega (arith, f.0), omega arith), tt)
+pub invariant_of-left : goal.invariant_of-left
+invariant_of-left c = let k = c.args.self.value in let f = (fits k (bounds_inner k c.args.self.inside)).1 in ((omega (arith, f.0), omega arith), tt)
 
-pub invariant-of-right : goal.invariant-of-right
-invariant-of-right c = let k = c.args.self.value in let f = (fits k (bounds_inner k c.args.self.inside)).1 in ((omega arith, omega (arith, f.1)), tt)
+pub invariant_of-right : goal.invariant_of-right
+invariant_of-right c = let k = c.args.self.value in let f = (fits k (bounds_inner k c.args.self.inside)).1 in ((omega arith, omega (arith, f.1)), tt)
 
 pub returns : goal.returns
 returns c = let k = c.args.self.value in found_below k c.width-width.result (bounds_inner k c.args.self.inside) c.width-width.ensures c.if-width-lt2.false

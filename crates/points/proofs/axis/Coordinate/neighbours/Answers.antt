@@ -4,11 +4,11 @@ use Rattle.points.specs.Axis.{left, right}
 use Rattle.points.proofs.Hierarchy.{bounds_inner, fits}
 use Rattle.points.proofs.axis.Coordinate.neighbours.Goals as goal
 
-pub overflow-sub-result : goal.overflow-sub-result
-overflow-sub-result c = let k = c.args.self.value in omega (arith, (fits k (bounds_inner k c.args.self.inside)).1.0)
+pub overflow_sub-result : goal.overflow_sub-result
+overflow_sub-result c = let k = c.args.self.value in omega (arith, (fits k (bounds_inner k c.args.self.inside)).1.0)
 
-pub overflow-add-result : goal.overflow-add-result
-overflow-add-result c = let k = c.args.self.value in omega (arith, (fits k (bounds_inner k c.args.self.inside)).1.1)
+pub overflow_add-result : goal.overflow_add-result
+overflow_add-result c = let k = c.args.self.value in omega (arith, (fits k (bounds_inner k c.args.self.inside)).1.1)
 
 pub returns : goal.returns
 unfolding left right

@@ -7,24 +7,24 @@ use Rattle.points.proofs.axis.Coordinate.parent.Goals as goal
 use Rattle.points.proofs.axis.Coordinate.parent.Goals.{then-level-of-level, else-level-of-level}
 
 pub returns-then-level-lt2 : goal.returns-then-level-lt2
-returns-then-level-lt2 c = none_above c.args.self.value (omega (arith, c.level-and-index-level.ensures.0))
+returns-then-level-lt2 c = none_above c.args.self.value (omega (arith, c.level_and_index-level.ensures.0))
 
-pub overflow-add-level-of : goal.overflow-add-level-of
+pub overflow_add-level_of : goal.overflow_add-level_of
 unfolding level
-overflow-add-level-of c = omega (arith, c.level-of.ensures)
+overflow_add-level_of c = omega (arith, c.level_of.ensures)
 
 pub returns : goal.returns
 returns c =
     let k = c.args.self.value in
-    let own = c.level-and-index-level.ensures.0 in
+    let own = c.level_and_index-level.ensures.0 in
     let sides = c.neighbours-left.ensures in
-    let at_left = c.level-of.ensures ∙ ap level sides.0 in
-    let up = found_above k c.if-level-of-level.up (bounds_inner k c.args.self.inside) (omega arith) in
-    c.new.ensures ∙ elim c.if-level-of-level.branch [
+    let at_left = c.level_of.ensures ∙ ap level sides.0 in
+    let up = found_above k c.if-level_of-level.up (bounds_inner k c.args.self.inside) (omega arith) in
+    c.new.ensures ∙ elim c.if-level_of-level.branch [
       | then-level-of-level w ↦
-          let t = w.if-level-of-level.true in
+          let t = w.if-level_of-level.true in
           up (w.up-is ∙ sides.0 ∙ sym (cond-true (above (left k) k) (left k) (right k) (eq-eqb (level (left k) + 1) (level k) (omega arith))))
       | else-level-of-level w ↦
-          let t = w.if-level-of-level.false in
+          let t = w.if-level_of-level.false in
           up (w.up-is ∙ sides.1 ∙ sym (cond-false (above (left k) k) (left k) (right k) (ne_eqb (level (left k) + 1) (level k) (λ e. t (omega arith)))))
     ]
