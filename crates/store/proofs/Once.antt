@@ -25,7 +25,7 @@ index_prop es used x y =
     let there : IsProp ((i : ℕ) → i < used → slot_at es (home_at es i) ≡ At i) = hlevel (props, (row.the_row).coded) in
     let back : IsProp ((j i : ℕ) → slot_at es j ≡ At i → (i < used) × (home_at es i ≡ j)) = hlevel props in
     let apart : IsProp ((i j : ℕ) → i < used → j < used → point_at es i ≡ point_at es j → i ≡ j) = hlevel props in
-    let ways : IsProp ((i : ℕ) → i < used → Way es (start_of (point_at es i) (length es)) (home_at es i)) = search (props, way_prop) depth 9 in
+    let ways : IsProp ((i : ℕ) → i < used → Way es (start_of (point_at es i) (length es)) (home_at es i)) = hlevel (props, way_prop) in
     λ i. record {
       fits = le _ _ x.fits y.fits i;
       inside = inside x.inside y.inside i;

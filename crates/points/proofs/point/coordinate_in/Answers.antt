@@ -9,6 +9,6 @@ use Rattle.points.proofs.point.coordinate_in.Goals as goal
 pub returns-in_err-k : goal.returns-in_err-k
 returns-in_err-k c =
     let i = c.args.direction in
-    let outside = c.in_err-k.ensures.finds.3 in
+    let outside = c.in_err-k.ensures.lookup.3 in
     let past = get_or_past (coords c.args.point) i 0 (omega (arith, outside, ap length c.coordinates-all.ensures)) in
     rw c.from_residual.ensures (ap (λ k. then_some (inner k) k) (sym past))

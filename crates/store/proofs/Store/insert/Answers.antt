@@ -10,13 +10,13 @@ returns-in-Some g c = record { answer = (c.in-Some.ensures.known, refl); room = 
 
 pub returns-then-len-capacity : goal.returns-then-len-capacity
 unfolding items capacity
-returns-then-len-capacity g c = record { answer = ((c.in-default.ensures, omega arith), refl); room = refl }
+returns-then-len-capacity g c = record { answer = ((c.in_default.ensures, omega arith), refl); room = refl }
 
 pub push-requires : goal.push-requires
 push-requires g c =
     let m = c.args.self.now in
     let ok = sound_of m.table m.sound in
-    record { sound = m.sound; absent = c.in-default.ensures; room = omega arith }
+    record { sound = m.sound; absent = c.in_default.ensures; room = omega arith }
 
 pub returns : goal.returns
 unfolding items capacity

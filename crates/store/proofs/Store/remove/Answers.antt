@@ -10,8 +10,8 @@ unfolding items capacity
 returns-in-Some g c =
     let t = c.args.self.now.table in
     record {
-      answer = subst (λ (p : ℕ). Removed (content t) (content c.drop-at.new.self) p) c.in-Some.ensures.place.1 c.drop-at.ensures.removed;
-      room = c.drop-at.ensures.room;
+      answer = subst (λ (p : ℕ). Removed (content t) (content c.drop_at.new.self) p) c.in-Some.ensures.place.1 c.drop_at.ensures.removed;
+      room = c.drop_at.ensures.room;
     }
 
 pub returns-in-None : goal.returns-in-None

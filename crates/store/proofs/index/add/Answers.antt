@@ -6,7 +6,7 @@ use Rattle.store.proofs.index.add.Goals as goal
 
 pub returns : goal.returns
 returns c =
-    added c.args.es.now c.set-record.new.es c.set-slot.new.es c.args.used c.args.p c.free-j.result
+    added c.args.es.now c.set_record.new.es c.set_slot.new.es c.args.used c.args.p c.free-j.result
     c.requires.index c.requires.room c.requires.absent
     (subst (λ (h : ℕ). Free c.args.es.now h c.free-j.result) c.start-h.ensures.value c.free-j.ensures)
-    c.set-record.ensures c.set-slot.ensures
+    c.set_record.ensures c.set_slot.ensures

@@ -4,5 +4,5 @@ use Rattle.store.proofs.index.remove.Goals as goal
 
 pub returns : goal.returns
 returns c =
-    dropped c.args.es.now c.set-slot.new.es c.set-record.new.es c.set-slot-2.new.es c.args.used c.args.i
-    c.requires.index c.requires.within c.set-slot.ensures c.set-record.ensures c.set-slot-2.ensures
+    dropped c.args.es.now c.set_slot.new.es c.set_record.new.es c.set_slot-2.new.es c.args.used c.args.i
+    c.requires.index c.requires.within c.set_slot.ensures c.set_record.ensures c.set_slot-2.ensures

@@ -6,18 +6,18 @@ use Rattle.text.proofs.Fronts.{word_front}
 use Rattle.text.proofs.Begun.{word_keeps}
 use Rattle.text.proofs.lexer.next_word.Goals as goal
 
-pub split-at-requires : goal.split-at-requires
-split-at-requires c = omega (arith, run_le is_letter c.args.text.now)
+pub split_at-requires : goal.split_at-requires
+split_at-requires c = omega (arith, run_le is_letter c.args.text.now)
 
 pub returns : goal.returns
 returns c =
     let text = c.args.text.now in
-    let w = c.split-at.result.0.now in
-    let run : w ≡ longest_run is_letter text = c.split-at.ensures.front ∙ ap (λ k. take k text) c.run-length-n.ensures ∙ run_take is_letter text in
+    let w = c.split_at.result.0.now in
+    let run : w ≡ longest_run is_letter text = c.split_at.ensures.front ∙ ap (λ k. take k text) c.run_length-n.ensures ∙ run_take is_letter text in
     let short : length w ≤ 16 = omega arith in
     record {
       found = word_front text c.requires.0 c.requires.1 ∙ ap (λ x. unless (word_fault x) (word x)) (sym run) ∙ ap (λ f. unless f (word w)) (word_keeps w short);
-      split = c.split-at.ensures.by_index.0;
-      left = c.split-at.ensures.back ∙ ap (λ k. drop k text) (sym c.split-at.ensures.front-len);
+      split = c.split_at.ensures.by_index.0;
+      left = c.split_at.ensures.back ∙ ap (λ k. drop k text) (sym c.split_at.ensures.front_len);
       placed = refl;
     }

@@ -5,8 +5,8 @@ use Rattle.text.specs.Number.{decimal}
 use Rattle.text.proofs.Decimals.{digit_at, decimal_more, tens}
 use Rattle.text.proofs.number.decimal_value.Goals as goal
 
-pub overflow-sub-digit : goal.overflow-sub-digit
-overflow-sub-digit c = (digit_at c.args.digits.now c.requires.digits c.loop-digit.digit-index c.loop-digit-test.true).0
+pub overflow_sub-digit : goal.overflow_sub-digit
+overflow_sub-digit c = (digit_at c.args.digits.now c.requires.digits c.loop-digit.digit-index c.loop-digit-test.true).0
 
 pub loop-digit-preserved : goal.loop-digit-preserved
 loop-digit-preserved c = decimal_more c.args.digits.now c.requires.digits c.loop-digit.digit-index c.loop-digit-test.true c.loop-digit.value c.from.result c.from.ensures c.loop-digit.invariant

@@ -4,4 +4,4 @@ use Rattle.kinds.specs.ResiduesLemmas.{residue_same}
 use Rattle.kinds.proofs.residue.ResidueKind.negative.Goals as goal
 
 pub returns : goal.returns
-returns c = ((zero-le, residue_same mersenne (omega arith)), omega arith)
+returns c = record { negative = (zero-le, residue_same mersenne (omega arith)); answered = omega arith }

@@ -6,11 +6,11 @@ use Rattle.store.proofs.Once.{sound_of}
 use Rattle.store.proofs.States.{length_held, nth_held}
 use Rattle.store.proofs.table.Table.item.Goals as goal
 
-pub point-at-requires : goal.point-at-requires
-point-at-requires g c = let ok = sound_of c.args.self.now c.requires in omega arith
+pub point_at-requires : goal.point_at-requires
+point_at-requires g c = let ok = sound_of c.args.self.now c.requires in omega arith
 
-pub state-at-requires : goal.state-at-requires
-state-at-requires g c = let ok = sound_of c.args.self.now c.requires in omega arith
+pub state_at-requires : goal.state_at-requires
+state_at-requires g c = let ok = sound_of c.args.self.now c.requires in omega arith
 
 pub returns-then-i-self : goal.returns-then-i-self
 returns-then-i-self g c =

@@ -8,5 +8,5 @@ unfolding held
 returns g c = record {
   sound = ∣ record { index = c.wipe.ensures.index; fits = omega arith; records = omega arith; entries = omega (arith, c.wipe.ensures.len) } ∣₁;
   empty = refl;
-  room = c.room-for-self.ensures.value;
+  room = c.room_for-self.ensures.value;
 }

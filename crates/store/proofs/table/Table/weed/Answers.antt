@@ -18,18 +18,18 @@ loop-i-init g c = record {
 pub state-requires : goal.state-requires
 state-requires g c = record { sound = ∣ c.loop-i.invariant.sound ∣₁; within = omega arith }
 
-pub drop-at-requires : goal.drop-at-requires
-drop-at-requires g c = record { sound = ∣ c.loop-i.invariant.sound ∣₁; within = omega arith }
+pub drop_at-requires : goal.drop_at-requires
+drop_at-requires g c = record { sound = ∣ c.loop-i.invariant.sound ∣₁; within = omega arith }
 
-pub overflow-add-n : goal.overflow-add-n
-overflow-add-n g c = omega arith
+pub overflow_add-n : goal.overflow_add-n
+overflow_add-n g c = omega arith
 
 pub loop-i-preserved-then-picks : goal.loop-i-preserved-then-picks
 loop-i-preserved-then-picks g c =
-    let d = c.drop-at.ensures in
+    let d = c.drop_at.ensures in
     weeding_drops c.args.self.now c.loop-i.self (g.P.Picks.picked c.args.picks.now) c.loop-i.n c.loop-i.i c.loop-i.invariant
     c.loop-i-test.true c.state.result c.state.ensures c.if-picks.ensures
-    c.drop-at.new.self (sound_of c.drop-at.new.self d.sound) d.room d.used d.moved d.removed
+    c.drop_at.new.self (sound_of c.drop_at.new.self d.sound) d.room d.used d.moved d.removed
 
 pub loop-i-preserved : goal.loop-i-preserved
 loop-i-preserved g c =
