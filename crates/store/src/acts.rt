@@ -97,7 +97,7 @@ impl<'m, S: Copy> Store<'m, S> {
 
     /// Removes each point whose state is picked, and tells how many.
     pub fn remove_picked<P: Picks<S>>(&mut self, picks: &P) -> usize
-        ensures weeded { Weeded (items self.old) (items self.new) (picked picks.now) result }
+        ensures weeded { Weeded (items self.old) (items self.new) (P.picked picks.now) result }
         ensures room { capacity self.new ≡ capacity self.old }
     {
         self.table.weed(picks)

@@ -141,7 +141,7 @@ impl<'m, S: Copy> Table<'m, S> {
         requires { Kept self.old }
         ensures sound { Kept self.new }
         ensures room { self.new.room ≡ self.old.room }
-        ensures weeded { Weeded (content self.old) (content self.new) (picked picks.now) result }
+        ensures weeded { Weeded (content self.old) (content self.new) (P.picked picks.now) result }
     {
         let mut n = 0;
         let mut i = self.used;

@@ -32,9 +32,9 @@ fn takes_a_mark(rt: HostRuntime) -> Result<(), Fail> {
 fn takes_a_word(rt: HostRuntime) -> Result<(), Fail> {
     match next_token(b"grid 1)", 1) {
         Ok((Token::Word(word, place), rest)) => {
-            assert_eq!(rt; word, b"grid");
+            assert_eq!(rt; word, b"grid".as_slice());
             assert_eq!(rt; place, 1);
-            assert_eq!(rt; rest, b" 1)");
+            assert_eq!(rt; rest, b" 1)".as_slice());
             Ok(())
         }
         _ => Err(Fail::new("a word")),
@@ -45,9 +45,9 @@ fn takes_a_word(rt: HostRuntime) -> Result<(), Fail> {
 fn takes_a_numeral(rt: HostRuntime) -> Result<(), Fail> {
     match next_token(b"-12)", 5) {
         Ok((Token::Numeral(numeral, place), rest)) => {
-            assert_eq!(rt; numeral, b"-12");
+            assert_eq!(rt; numeral, b"-12".as_slice());
             assert_eq!(rt; place, 5);
-            assert_eq!(rt; rest, b")");
+            assert_eq!(rt; rest, b")".as_slice());
             Ok(())
         }
         _ => Err(Fail::new("a numeral")),
