@@ -10,12 +10,12 @@ pub loop-direction-init : goal.loop-direction-init
 unfolding directions total
 loop-direction-init c = refl
 
-pub overflow-add-sum : goal.overflow-add-sum
-overflow-add-sum c =
+pub overflow_add-sum : goal.overflow_add-sum
+overflow_add-sum c =
     let i = c.loop-direction.direction in
     let point = c.coordinates-point.result in
     let end = c.from-direction-end.ensures ∙ c.count.ensures in
-    omega (arith, c.loop-direction.invariant, exponents_small i (take i point), c.from-sum.ensures, c.zeros-of.ensures, exponent_small (get_or point i 0), c.loop-direction-test.true, end)
+    omega (arith, c.loop-direction.invariant, exponents_small i (take i point), c.from-sum.ensures, c.zeros_of.ensures, exponent_small (get_or point i 0), c.loop-direction-test.true, end)
 
 pub loop-direction-preserved : goal.loop-direction-preserved
 loop-direction-preserved c =
@@ -23,7 +23,7 @@ loop-direction-preserved c =
     let point = c.coordinates-point.result in
     let end = c.from-direction-end.ensures ∙ c.count.ensures in
     let inside : i < length point = omega (arith, ap length c.coordinates-point.ensures, coords_length c.args.point, c.loop-direction-test.true, end) in
-    ap₂ ◌+◌ c.loop-direction.invariant (c.from-sum.ensures ∙ c.zeros-of.ensures) ∙ sym (exponents_more i point inside)
+    ap₂ ◌+◌ c.loop-direction.invariant (c.from-sum.ensures ∙ c.zeros_of.ensures) ∙ sym (exponents_more i point inside)
 
 pub returns : goal.returns
 returns c =

@@ -22,10 +22,10 @@ more c =
     let few : i < 4 = omega (arith, c.loop-direction-test.true, end) in
     let in_point : i < length point = omega (arith, ap length c.coordinates-point.ensures, coords_length c.args.point) in
     let in_place : i < length place = omega (arith, ap length c.coordinates-place.ensures, coords_length c.args.place) in
-    (few, ap₂ ◌*◌ c.loop-direction.invariant (c.from-product.ensures ∙ c.numerator-of.ensures) ∙ sym (numerators_more i point place in_point in_place))
+    (few, ap₂ ◌*◌ c.loop-direction.invariant (c.from-product.ensures ∙ c.numerator_of.ensures) ∙ sym (numerators_more i point place in_point in_place))
 
-pub overflow-mul-product : goal.overflow-mul-product
-overflow-mul-product c =
+pub overflow_mul-product : goal.overflow_mul-product
+overflow_mul-product c =
     let i = c.loop-direction.direction in
     let m = more c in
     let few : i + 1 ≤ 4 = omega (arith, m.0) in

@@ -8,16 +8,16 @@ pub loop-init : goal.loop-init
 unfolding doubled
 loop-init g c = refl
 
-pub returns-in-err-half : goal.returns-in-err-half
-returns-in-err-half g c =
+pub returns-in_err-half : goal.returns-in_err-half
+returns-in_err-half g c =
     let m = g.K.Kind.meaning in
-    rw c.from-residual.ensures
-    (no_half g.K.Kind.group g.met.K.Kind.lawful g.met.K.Kind.halving c.loop.counter c.args.times (m c.args.value) (m c.loop.half) c.loop-test.true c.loop.invariant c.in-err-half.ensures)
+    rw c.from_residual.ensures
+    (no_half g.K.Kind.group g.met.K.Kind.lawful g.met.K.Kind.halving c.loop.counter c.args.times (m c.args.value) (m c.loop.half) c.loop-test.true c.loop.invariant c.in_err-half.ensures)
 
 pub loop-preserved : goal.loop-preserved
 loop-preserved g c =
     let m = g.K.Kind.meaning in
-    halved_more g.K.Kind.group g.met.K.Kind.lawful c.loop.counter (m c.args.value) (m c.loop.half) (m c.in-ok-half.half) c.loop.invariant c.in-ok-half.ensures
+    halved_more g.K.Kind.group g.met.K.Kind.lawful c.loop.counter (m c.args.value) (m c.loop.half) (m c.in_ok-half.half) c.loop.invariant c.in_ok-half.ensures
 
 pub returns : goal.returns
 returns g c =

@@ -12,5 +12,5 @@ returns g c =
     let s = c.args.exponent in
     let x = c.args.surplus in
     let r = c.taken.result in
-    let t = term_of G L H m n s x c.in-ok-part.part r c.in-ok-part.ensures c.taken.ensures in
+    let t = term_of G L H m n s x c.in_ok-part.part r c.in_ok-part.ensures c.taken.ensures in
     record { exact = t; answers = term_answers G L H m n s x r t }

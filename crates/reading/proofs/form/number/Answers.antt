@@ -5,7 +5,7 @@ use Rattle.reading.proofs.Cursors.{onward}
 use Rattle.reading.proofs.form.number.Goals as goal
 
 pub overflow-add-next : goal.overflow-add-next
-overflow-add-next c = omega (arith, (onward c.args.at c.in-ok-token.token c.in-ok-token.rest (length c.in-Numeral.digits.now) c.requires c.in-ok-token.ensures (ap (λ t. length (bytes (view t))) c.in-Numeral.is)).0)
+overflow-add-next c = omega (arith, (onward c.args.at c.in_ok-token.token c.in_ok-token.rest (length c.in-Numeral.digits.now) c.requires c.in_ok-token.ensures (ap (λ t. length (bytes (view t))) c.in-Numeral.is)).0)
 
 pub returns : goal.returns
-returns c = (onward c.args.at c.in-ok-token.token c.in-ok-token.rest (length c.in-Numeral.digits.now) c.requires c.in-ok-token.ensures (ap (λ t. length (bytes (view t))) c.in-Numeral.is)).1
+returns c = (onward c.args.at c.in_ok-token.token c.in_ok-token.rest (length c.in-Numeral.digits.now) c.requires c.in_ok-token.ensures (ap (λ t. length (bytes (view t))) c.in-Numeral.is)).1
