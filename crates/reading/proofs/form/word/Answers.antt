@@ -4,8 +4,8 @@ use Rattle.text.specs.Token.{bytes}
 use Rattle.reading.proofs.Cursors.{onward}
 use Rattle.reading.proofs.form.word.Goals as goal
 
-pub overflow-add-next : goal.overflow-add-next
-overflow-add-next c = omega (arith, (onward c.args.at c.in_ok-token.token c.in_ok-token.rest (length c.in-Word.letters.now) c.requires c.in_ok-token.ensures (ap (λ t. length (bytes (view t))) c.in-Word.is)).0)
+pub overflow_add-next : goal.overflow_add-next
+overflow_add-next c = omega (arith, (onward c.args.at c.in_ok-token.token c.in_ok-token.rest (length c.in-Word.letters.now) c.requires c.in_ok-token.ensures (ap (λ t. length (bytes (view t))) c.in-Word.is)).0)
 
 pub returns : goal.returns
 returns c = (onward c.args.at c.in_ok-token.token c.in_ok-token.rest (length c.in-Word.letters.now) c.requires c.in_ok-token.ensures (ap (λ t. length (bytes (view t))) c.in-Word.is)).1

@@ -7,11 +7,11 @@ use Rattle.report.proofs.lowest.lowest_terms.Goals as goal
 pub loop-exponent-preserved : goal.loop-exponent-preserved
 loop-exponent-preserved c =
     let i = c.loop-exponent.invariant in
-    let f : SFits w64 c.exact-half-numerator.result = search rules in (
+    let f : SFits w64 c.exact_half-numerator.result = search rules in (
       i.0 + 1,
       omega arith,
-      ap (λ z. z *ℤ pos (2 ^ (i.0 + 1))) (to_z-of_z w64 c.exact-half-numerator.result f)
-          ∙ half_of c.exact-half-numerator.result i.0
-          ∙ ap (λ z. z *ℤ pos (2 ^ i.0)) c.exact-half-numerator.ensures
+      ap (λ z. z *ℤ pos (2 ^ (i.0 + 1))) (to_z-of_z w64 c.exact_half-numerator.result f)
+          ∙ half_of c.exact_half-numerator.result i.0
+          ∙ ap (λ z. z *ℤ pos (2 ^ i.0)) c.exact_half-numerator.ensures
           ∙ i.2,
     )
