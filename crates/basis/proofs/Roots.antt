@@ -1,5 +1,5 @@
 -- The surplus of samples that are some member doubled often enough.
-use Rattle.std.proofs.Common.{◌≡◌, ℕ, zero, suc, ◌+◌, ◌-◌, ◌≤◌, List, [], ◌∷◌, length, Some, None, Option, sym, refl, ap, ◌∙◌, ap₂, inl, inr, arith}
+use Rattle.std.proofs.Common.{◌≡◌, ℕ, suc, ◌+◌, ◌-◌, ◌≤◌, List, [], ◌∷◌, length, Some, None, Option, sym, refl, ap, ◌∙◌, ap₂, inl, inr, arith}
 use Rattle.kinds.specs.Group.{Group, Laws, doubled}
 use Rattle.kinds.specs.Halving.{Halving}
 use Rattle.basis.specs.Sums.{halved, signed}

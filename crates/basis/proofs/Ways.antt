@@ -1,5 +1,5 @@
 -- The sum over all ways is the sum direction by direction.
-use Rattle.std.proofs.Common.{◌≡◌, ℕ, zero, suc, ◌+◌, List, [], ◌∷◌, ◌++◌, map, Some, None, Option, sym, refl, ap, ◌∙◌, ap₂, add-zero, zero-add, arith}
+use Rattle.std.proofs.Common.{◌≡◌, ℕ, suc, ◌+◌, List, [], ◌∷◌, ◌++◌, map, Some, None, Option, sym, refl, ap, ◌∙◌, ap₂, add-zero, zero-add, arith}
 use Rattle.std.specs.Option.{option_map, option_zip}
 use Rattle.kinds.specs.Group.{Group, Laws}
 use Rattle.kinds.specs.Halving.{Halving}

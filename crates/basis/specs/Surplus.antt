@@ -1,5 +1,5 @@
 -- The hierarchical surplus of a point.
-use Rattle.std.specs.Prelude.{◌≡◌, ℕ, zero, suc, List, [], ◌∷◌, map, Some, None, Option}
+use Rattle.std.specs.Prelude.{◌≡◌, ℕ, suc, List, [], ◌∷◌, map, Some, None, Option}
 use Rattle.std.specs.Option.{option_map, option_zip}
 use Rattle.kinds.specs.Group.{Group}
 use Rattle.kinds.specs.Halving.{Halving}

@@ -1,5 +1,5 @@
 -- Halves in a group: they are unique, they lose no size, and samples are told by them.
-use Rattle.std.specs.Prelude.{◌≡◌, ℕ, ◌*◌, ◌^◌, ◌≤◌, Bool, true}
+use Rattle.std.specs.Prelude.{◌≡◌, ◌*◌, ◌^◌, ◌≤◌, Bool, true}
 use Rattle.kinds.specs.Group.{Group, twice, doubled}
 
 -- Equal doubles mean equal members, so a half is unique.

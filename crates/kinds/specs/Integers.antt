@@ -1,5 +1,5 @@
 -- The integers, which dyadic values mean: counts of 2^-28.
-use Rattle.std.specs.Prelude.{ℕ, ◌^◌, ℤ, pos, ◌+ℤ◌, ◌*ℤ◌, neg_ℤ, unsigned_abs}
+use Rattle.std.specs.Prelude.{◌^◌, ℤ, pos, ◌+ℤ◌, ◌*ℤ◌, neg_ℤ, unsigned_abs}
 use Rattle.kinds.specs.Group.{Group}
 
 -- the size is the count without its sign

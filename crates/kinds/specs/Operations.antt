@@ -1,5 +1,5 @@
 -- What the operations of a kind answer. X are the values, and m says which member of the group a value means.
-use Rattle.std.specs.Prelude.{◌≡◌, ℕ, ◌+◌, ◌^◌, ◌<◌, ◌≤◌, Bool, true, false, ℤ, Some, None, Option, ◌≢◌}
+use Rattle.std.specs.Prelude.{◌≡◌, ◌+◌, ◌^◌, ◌<◌, ◌≤◌, Bool, true, false, ℤ, Some, None, Option, ◌≢◌}
 use Rattle.kinds.specs.Group.{Group, twice}
 use Rattle.kinds.specs.Halving.{Fits}
 use Rattle.kinds.specs.Numbers.{InRange}

@@ -1,11 +1,11 @@
 -- The laws of a product of two groups, from those of its parts.
-use Rattle.std.specs.Prelude.{◌≡◌, ℕ, zero, suc, ◌+◌, ◌*◌, ◌^◌, ◌<◌, ◌≤◌, max, Bool, true, false, ◌&&◌, ℤ}
+use Rattle.std.specs.Prelude.{◌≡◌, ℕ, zero, suc, Bool, true, false, ◌&&◌, ℤ}
 use Rattle.std.proofs.Math.Path.{refl, ap}
 use Rattle.std.proofs.Common.{sym, ap₂, ◌∙◌, arith}
 use Rattle.std.proofs.lemmas.Bool.{and_parts, and_from, true≢false}
 use Rattle.kinds.specs.Group.{Group, Laws, twice, doubled}
 use Rattle.kinds.specs.Halving.{Halving, UniqueHalves, Fits}
-use Rattle.kinds.specs.Numbers.{Numbers, InRange}
+use Rattle.kinds.specs.Numbers.{Numbers}
 use Rattle.kinds.specs.Operations.{Fit}
 use Rattle.kinds.specs.Product.{product}
 

@@ -1,5 +1,5 @@
 -- The laws of residues: sums, halves, fit and whole numbers, for every odd modulus that is wide enough.
-use Rattle.std.specs.Prelude.{◌≡◌, ℕ, zero, suc, ◌+◌, ◌-◌, ◌*◌, ◌/◌, ◌%◌, ◌^◌, ◌<◌, ◌≤◌, Bool, true, false, cond, ◌⊎◌, ℤ, pos, negsuc, ◌+ℤ◌, ◌==◌, ◌≢◌, nat_lt}
+use Rattle.std.specs.Prelude.{◌≡◌, ℕ, zero, suc, ◌+◌, ◌-◌, ◌/◌, ◌%◌, ◌<◌, ◌≤◌, true, cond, ◌⊎◌, ℤ, pos, negsuc, ◌+ℤ◌, ◌==◌, ◌≢◌, nat_lt}
 use Rattle.std.proofs.Math.Path.{refl, ap}
 use Rattle.std.proofs.Common.{sym, subst, ◌∙◌, inl, inr, zero-le, mod-eq_of_lt, add_assoc, add_comm, add-zero, arith, leb→le}
 use Rattle.std.proofs.Math.Logic.{⊎_elim}
@@ -8,7 +8,7 @@ use Rattle.std.proofs.Math.Nat.{mod_self, mod-add-mod, add-mod-mod, add-mod, add
 use Rattle.std.proofs.Math.IntN.{sub_ℕ}
 use Rattle.std.proofs.lemmas.Int.{ints}
 use Rattle.std.proofs.lemmas.Bool.{cases_lt, cases_eq, eq-eqb, ne_eqb, cond-true, cond-false, lt-ltb, le-ltb}
-use Rattle.kinds.specs.Group.{Group, Laws, twice, doubled}
+use Rattle.kinds.specs.Group.{Laws, twice, doubled}
 use Rattle.kinds.specs.Halving.{Halving, UniqueHalves, Fits}
 use Rattle.kinds.specs.Numbers.{Numbers, InRange}
 use Rattle.kinds.specs.Residues.{Modulus, ResidueClass, class, residues, whole_residue}

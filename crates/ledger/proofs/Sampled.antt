@@ -3,7 +3,7 @@ use Rattle.std.proofs.Common.{◌≡◌, ℕ, ◌-◌, ◌*◌, ◌≤◌, List,
 use Rattle.std.proofs.lemmas.Bool.{lt-ltb, le-ltb, not_from_true}
 use Rattle.kinds.specs.Group.{Group, Laws, doubled}
 use Rattle.kinds.specs.Halving.{Halving, Fits}
-use Rattle.points.specs.Points.{coords, number, level_sum, parents}
+use Rattle.points.specs.Points.{coords, number, parents}
 use Rattle.points.specs.Refusals.{first}
 use Rattle.points.proofs.Points.{numbered}
 use Rattle.basis.specs.Lists.{IsIn, SameSet}

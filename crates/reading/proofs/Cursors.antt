@@ -1,5 +1,5 @@
 -- A token that is taken brings the cursor onward.
-use Rattle.std.proofs.Common.{◌≡◌, ℕ, ◌+◌, ◌^◌, ◌<◌, ◌≤◌, List, ◌++◌, length, sym, refl, ap, ◌∙◌, arith, length-append, Bor}
+use Rattle.std.proofs.Common.{◌≡◌, ℕ, ◌+◌, ◌^◌, ◌<◌, ◌≤◌, List, length, ap, ◌∙◌, arith, length-append, Bor}
 use Rattle.reading.specs.declared.cursor.Cursor.{Cursor}
 use Rattle.text.specs.declared.token.Token.{Token}
 use Rattle.reading.specs.Cursor.{reach, Onward}

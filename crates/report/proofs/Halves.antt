@@ -1,5 +1,5 @@
 -- Halves and powers of two.
-use Rattle.std.proofs.Common.{◌≡◌, ℕ, suc, ◌+◌, ◌*◌, ◌^◌, ℤ, pos, negsuc, ◌+ℤ◌, ◌*ℤ◌, neg_ℤ, sym, refl, ap, ◌∙◌, mul_assoc, mul_comm, add-mul, pow-suc, add-one, arith}
+use Rattle.std.proofs.Common.{◌≡◌, ℕ, suc, ◌+◌, ◌*◌, ◌^◌, ℤ, pos, negsuc, ◌+ℤ◌, ◌*ℤ◌, neg_ℤ, sym, ap, ◌∙◌, mul_assoc, add-mul, pow-suc, add-one, arith}
 
 -- a half takes one more power of two
 pub half_of : (m : ℤ) (t : ℕ) → m *ℤ pos (2 ^ (t + 1)) ≡ (m +ℤ m) *ℤ pos (2 ^ t)

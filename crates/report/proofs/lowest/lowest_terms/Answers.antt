@@ -1,6 +1,6 @@
 -- One more power of two is taken out, and the exponent is one less.
-use Rattle.std.proofs.Common.{◌≡◌, ◌+◌, ◌^◌, pos, ◌+ℤ◌, ◌*ℤ◌, ap, ◌∙◌, arith, w64, SFits, rules}
-use Rattle.std.proofs.lemmas.Int.{ints, to_z-of_z}
+use Rattle.std.proofs.Common.{◌+◌, ◌^◌, pos, ◌*ℤ◌, ap, ◌∙◌, arith, w64, SFits, rules}
+use Rattle.std.proofs.lemmas.Int.{to_z-of_z}
 use Rattle.report.proofs.Halves.{half_of}
 use Rattle.report.proofs.lowest.lowest_terms.Goals as goal
 
