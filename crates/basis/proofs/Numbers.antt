@@ -2,7 +2,7 @@
 use Rattle.std.proofs.Common.{◌≡◌, ℕ, zero, suc, ◌+◌, ◌-◌, ◌<◌, ◌≤◌, Bool, true, ◌&&◌, eqb, List, [], ◌∷◌, ◌++◌, map, length, take, drop, Some, None, sum_by, Option, sym, refl, ap, ◌∙◌, ap₂, arith}
 use mathlib.Core.List.{map-map, map-append}
 use Rattle.std.specs.Option.{option_map, option_to_list}
-use Rattle.std.specs.List.{AllByRecursion as All}
+use Rattle.std.specs.List.{AllByRecursion}
 use Rattle.std.proofs.lemmas.List.Sums.{sum_by-cons}
 use Rattle.std.proofs.lemmas.Bool.{and_parts, and_from, eqb-true, eq-eqb}
 use Rattle.points.specs.Axis as coordinate
@@ -56,7 +56,7 @@ inside_length zero (suc n) (k ∷ ks) i = omega (arith, inside_length zero n ks 
 inside_length (suc d) n [] i = absurd i
 inside_length (suc d) n (k ∷ ks) i = omega (arith, inside_length d n ks i.1)
 
-inside_bytes : (d n : ℕ) (ks : List ℕ) → Inside (directions d n) ks → All (λ k. k < 256) ks
+inside_bytes : (d n : ℕ) (ks : List ℕ) → Inside (directions d n) ks → AllByRecursion (λ k. k < 256) ks
 unfolding directions
 inside_bytes zero zero [] i = tt
 inside_bytes zero zero (k ∷ ks) i = absurd i

@@ -1,6 +1,6 @@
 -- Points as numbers and as coordinates.
 use Rattle.std.proofs.Common.{◌≡◌, ℕ, ◌+◌, ◌*◌, ◌/◌, ◌%◌, ◌^◌, ◌<◌, ◌≤◌, Bool, true, false, ◌&&◌, leb, List, [], ◌∷◌, length, get_or, drop, refl, ap, ◌∙◌, ap₂, arith}
-use Rattle.std.specs.List.{AllByRecursion as All}
+use Rattle.std.specs.List.{AllByRecursion}
 use Rattle.std.proofs.lemmas.List.{at_drop_more, at_drop_all}
 use Rattle.std.proofs.lemmas.Bool.{le-leb, lt-leb, and_from, and_left, and_right}
 use Rattle.points.specs.Axis.{within}
@@ -24,7 +24,7 @@ coords_four : (a b c d : ℕ) → a < 256 → b < 256 → c < 256 → d < 256 �
 unfolding number coords
 coords_four a b c d ha hb hc hd = ap₂ ◌∷◌ (omega arith) (ap₂ ◌∷◌ (omega arith) (ap₂ ◌∷◌ (omega arith) (ap₂ ◌∷◌ (omega arith) refl)))
 
-coords_number : (ks : List ℕ) → length ks ≡ 4 → All (λ k. k < 256) ks → coords (number ks) ≡ ks
+coords_number : (ks : List ℕ) → length ks ≡ 4 → AllByRecursion (λ k. k < 256) ks → coords (number ks) ≡ ks
 coords_number [] e h = absurd (omega arith)
 coords_number (a ∷ []) e h = absurd (omega arith)
 coords_number (a ∷ b ∷ []) e h = absurd (omega arith)

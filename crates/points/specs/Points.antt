@@ -1,6 +1,6 @@
 -- Points and places of a grid of d dimensions, each as one number of 32 bits: four coordinates, the first in front, of which the first d are used.
 use Rattle.std.specs.Prelude.{◌≡◌, ℕ, ◌+◌, ◌*◌, ◌/◌, ◌%◌, ◌^◌, ◌<◌, Bool, true, not, ◌&&◌, List, [], ◌∷◌, length, take, drop, sum_by, Option, nat_eq, nat_lt, slice_index, slice_set}
-use Rattle.std.specs.List.{flat_map, AllByRecursion as All}
+use Rattle.std.specs.List.{flat_map, AllByRecursion}
 use Rattle.std.specs.Option.{option_map, option_to_list}
 use Rattle.points.specs.Axis.{level, within, inner, parent, children}
 use Rattle.points.specs.Refusals.{Cause, cause}
@@ -18,7 +18,7 @@ number (k ∷ ks) = k * 256 ^ length ks + number ks
 -- nothing is lost either way
 pub record Numbered : Type 0 where
   pub back : (n : ℕ) → n < 2 ^ 32 → number (coords n) ≡ n
-  pub again : (ks : List ℕ) → length ks ≡ 4 → All (λ k. k < 256) ks → coords (number ks) ≡ ks
+  pub again : (ks : List ℕ) → length ks ≡ 4 → AllByRecursion (λ k. k < 256) ks → coords (number ks) ≡ ks
 
 -- each element passes the test
 unfoldable pub every : (ℕ → Bool) → List ℕ → Bool
