@@ -34,7 +34,7 @@ module _ {M : Type 0} (fits : M → Bool) where
     pub out : OutUnder (end fits c) t s
     pub no_draw : (r : ℕ) (u : Ticket) → (next fits c (draw t.point r)).answer ≢ handed u
     pub enterable : (x : M) → (next fits c (enter t x)).answer ≢ refused NoSuchTicket
-    pub withdrawable : (next fits c (withdraw t)).answer ≡ refused NoSuchTicket → ⊥
+    pub withdrawable : (next fits c (withdraw t)).answer ≢ refused NoSuchTicket
 
   -- Once it has ended, every entry or withdrawal of it is refused as unknown as the next call.
   pub record Void (c : Course M) (t : Ticket) : Type 0 where

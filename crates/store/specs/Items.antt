@@ -1,5 +1,5 @@
 -- What a store holds, as a list of items: points with their states. The order of the items is open.
-use Rattle.std.specs.Prelude.{◌≡◌, ℕ, ◌+◌, ◌<◌, Bool, true, false, cond, List, [], ◌∷◌, length, Some, None, Ok, Err, Option, Result, ◌==◌, nat_eq, nat_le}
+use Rattle.std.specs.Prelude.{◌≡◌, ℕ, ◌+◌, ◌<◌, Bool, true, false, cond, List, [], ◌∷◌, length, Some, None, Ok, Err, Option, Result, ◌==◌, nat_eq, nat_le, ◌≢◌}
 use Rattle.std.specs.Map.{update}
 use Rattle.store.specs.declared.fault.InsertFault.{InsertFault}
 use Rattle.store.specs.declared.fault.InsertFault.TheVariants.{Known, Full}
@@ -21,13 +21,13 @@ pub record Inserted {S : Type 0} (xs ys : List (ℕ × S)) (p : ℕ) (s : S) : T
 
 -- the point p, which had a state, has the state s
 pub record Replaced {S : Type 0} (xs ys : List (ℕ × S)) (p : ℕ) (s : S) : Type 0 where
-  pub known : look xs p ≡ None → ⊥
+  pub known : look xs p ≢ None
   pub states : (q : ℕ) → look ys q ≡ update nat_eq (look xs) p (Some s) q
   pub count : length ys ≡ length xs
 
 -- the point p, which had a state, has none
 pub record Removed {S : Type 0} (xs ys : List (ℕ × S)) (p : ℕ) : Type 0 where
-  pub known : look xs p ≡ None → ⊥
+  pub known : look xs p ≢ None
   pub states : (q : ℕ) → look ys q ≡ update nat_eq (look xs) p None q
   pub count : length ys + 1 ≡ length xs
 
@@ -47,7 +47,7 @@ pub record Weeded {S : Type 0} (xs ys : List (ℕ × S)) (f : S → Bool) (n : �
 
 -- why an insertion is refused, with room for n items
 abbrev pub Cause : {S : Type 0} → List (ℕ × S) → ℕ → ℕ → InsertFault → Type 0
-Cause xs n p Known = look xs p ≡ None → ⊥
+Cause xs n p Known = look xs p ≢ None
 Cause xs n p Full = (look xs p ≡ None) × (length xs ≡ n)
 
 -- what an insertion answers, with room for n items: a refusal alters nothing

@@ -29,7 +29,7 @@ Kept t = ∥ Sound t ∥₁
 pub record RecordOf {S : Type 0} (t : Table S) (p i : ℕ) : Type 0 where
   pub place : Place t.entries.now t.used p i
   pub state : look (content t) p ≡ slice_get t.records.now i
-  pub known : look (content t) p ≡ None → ⊥
+  pub known : look (content t) p ≢ None
 
 -- o stands at i, and all else is as before
 pub record Written {S : Type 0} (ss ts : List S) (i : ℕ) (o : Option S) : Type 0 where
