@@ -6,6 +6,7 @@ use Rattle.store.specs.declared.entry.Entry.{Entry}
 use Rattle.store.specs.declared.entry.Slot.{Slot}
 use Rattle.store.specs.declared.entry.Slot.TheVariants.{Empty, At}
 use Rattle.store.proofs.Ways.{way_kept}
+use Rattle.store.proofs.Writes.{with_slot, with_record, slot_set, record_set}
 
 -- what holds of the records before the last, and of the last
 each : (used : ℕ) (P : ℕ → Type 0) → P used → ((i : ℕ) → i < used → P i) → (i : ℕ) → i < used + 1 → P i
@@ -39,7 +40,7 @@ module _ (es ms fs : List Entry) (used p j : ℕ) (ok : Index es used) (room : u
   not_empty : (k : ℕ) → (slot_at es k ≡ Empty → ⊥) → slot_at fs k ≡ Empty → ⊥
   not_empty k was e = ⊎_elim (λ h. let t = slotted.here in let z : ◌≡◌ {A = ℕ} 0 1 = cc in omega arith) (λ ne. was (sym (slot_other k ne) ∙ e)) (cases_eq k j)
 
-  pub added : Added es fs used p
+  added : Added es fs used p
   added = record {
     index = record {
       fits = omega (arith, len);
@@ -66,3 +67,10 @@ module _ (es ms fs : List Entry) (used p j : ℕ) (ok : Index es used) (room : u
     last = point_here;
     others = λ i n. slotted.points i ∙ recorded.point_other i n;
   }
+
+-- the two writes
+pub pushed : (es : List Entry) (used p j : ℕ) → Index es used → used < length es → Absent es used p → Free es (start_of p (length es)) j
+    → Added es (with_slot (with_record es used p j) j (At used)) used p
+pushed es used p j ok room absent free =
+    let w = record_set es used room p j in
+    added es _ _ used p j ok room absent free w (slot_set (with_record es used p j) j (omega (arith, free.inside, w.len)) (At used))

@@ -1,10 +1,11 @@
 -- How an index changes by one record less.
 use Rattle.std.proofs.Common.{◌≡◌, ℕ, ◌-◌, ◌<◌, List, length, sym, refl, ap, ◌∙◌, subst, ⊎_elim, arith}
 use Rattle.std.proofs.lemmas.Bool.{cases_eq}
-use Rattle.store.specs.Index.{Index, Way, slot_at, home_at, point_at, start_of, RecordSet, SlotSet, Dropped}
+use Rattle.store.specs.Index.{Index, Way, slot_at, home_at, point_at, start_of, RecordSet, SlotSet, Dropped, Rehashed}
 use Rattle.store.specs.declared.entry.Entry.{Entry}
 use Rattle.store.specs.declared.entry.Slot.TheVariants.{Empty, Gone, At}
 use Rattle.store.proofs.Ways.{way_kept}
+use Rattle.store.proofs.Writes.{with_slot, with_record, slot_set, record_set}
 
 -- two records have two homes
 homes_apart : (es : List Entry) (used : ℕ) → Index es used → (m k : ℕ) → m < used → k < used → (m ≡ k → ⊥) → home_at es m ≡ home_at es k → ⊥
@@ -45,7 +46,7 @@ module _ (es ts bs fs : List Entry) (used i : ℕ) (ok : Index es used) (within 
       (λ n. ⊎_elim (λ h. let t = slot_last (λ g. n (h ∙ g)) in let z : ◌≡◌ {A = ℕ} 0 1 = cc in omega arith) (λ m. was (sym (slot_other k n m) ∙ e)) (cases_eq k (home_at es (used - 1))))
       (cases_eq k (home_at es i))
 
-  pub dropped : Dropped es fs used i
+  dropped : Dropped es fs used i
   dropped = record {
     index = record {
       fits = omega (arith, len, ok.fits);
@@ -76,3 +77,23 @@ module _ (es ts bs fs : List Entry) (used i : ℕ) (ok : Index es used) (within 
     moved = λ _. point_moved;
     others = λ k b n. point_other k n;
   }
+
+-- the three writes
+pub removed : (es : List Entry) (used i : ℕ) → Index es used → i < used
+    → Dropped es (with_slot (with_record (with_slot es (home_at es (used - 1)) (At i)) i (point_at es (used - 1)) (home_at es (used - 1))) (home_at es i) Gone) used i
+removed es used i ok b =
+    let last = used - 1 in
+    let w = slot_set es (home_at es last) (ok.inside last (omega arith)) (At i) in
+    let ts = with_slot es (home_at es last) (At i) in
+    let r = record_set ts i (omega (arith, w.len, ok.fits)) (point_at es last) (home_at es last) in
+    dropped es _ _ _ used i ok b w r
+    (slot_set (with_record ts i (point_at es last) (home_at es last)) (home_at es i) (omega (arith, w.len, r.len, ok.inside i b)) Gone)
+
+-- and then a hash table made anew
+pub dropped_anew : (es fs gs : List Entry) (used i : ℕ) → Dropped es fs used i → Rehashed fs gs (used - 1) → Dropped es gs used i
+dropped_anew es fs gs used i d r = record {
+  index = r.index;
+  len = r.len ∙ d.len;
+  moved = λ b. r.points i ∙ d.moved b;
+  others = λ k b n. r.points k ∙ d.others k b n;
+}

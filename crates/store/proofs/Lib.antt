@@ -1,10 +1,15 @@
--- Lemmas that several proofs share. `Facts` serves the crates above too.
+-- Lemmas that several proofs share.
 mod Pigeon
 mod Ways
+mod Rounds
+mod Vacancies
+mod Searches
+mod Writes
 mod Adding
 mod Dropping
 mod Rehashing
-mod Once
 mod States
+mod Facts
+mod Known
+mod Changes
 mod Weeding
-pub mod Facts

@@ -18,16 +18,14 @@ wiped es empty = record {
 }
 
 -- the records before i in a new hash table, with the same points
-pub relinked : (es fs gs : List Entry) (i p : ℕ) → p ≡ point_at fs i → Rehashed es fs i → Added fs gs i p → Rehashed es gs (i + 1)
-relinked es fs gs i p e so new = record {
+pub relinked : (es fs gs : List Entry) (i : ℕ) → Rehashed es fs i → Added fs gs i (point_at fs i) → Rehashed es gs (i + 1)
+relinked es fs gs i so new = record {
   index = new.index;
   len = new.len ∙ so.len;
-  points = λ k. ⊎_elim (λ h. ap (point_at gs) h ∙ new.last ∙ e ∙ so.points i ∙ ap (point_at es) (sym h)) (λ n. new.others k n ∙ so.points k) (cases_eq k i);
+  points = λ k. ⊎_elim (λ h. ap (point_at gs) h ∙ new.last ∙ so.points i ∙ ap (point_at es) (sym h)) (λ n. new.others k n ∙ so.points k) (cases_eq k i);
 }
 
-pub next_absent : (es ws fs : List Entry) (used i p : ℕ) → Index es used → i < used → p ≡ point_at fs i → Rehashed es ws 0 → Rehashed ws fs i → Absent fs i p
-next_absent es ws fs used i p ok b e wiped so k l h =
-    let x = ok.apart k i (omega arith) b (sym (so.points k ∙ wiped.points k) ∙ h ∙ e ∙ so.points i ∙ wiped.points i) in omega arith
-
-pub rehashed_twice : (es fs gs : List Entry) (m used : ℕ) → Rehashed es fs m → Rehashed fs gs used → Rehashed es gs used
-rehashed_twice es fs gs m used x y = record { index = y.index; len = y.len ∙ x.len; points = λ k. y.points k ∙ x.points k }
+-- none of them has the point of record i
+pub next_absent : (es fs : List Entry) (used i : ℕ) → Index es used → i < used → Rehashed es fs i → Absent fs i (point_at fs i)
+next_absent es fs used i ok b so k l h =
+    let x = ok.apart k i (omega arith) b (sym (so.points k) ∙ h ∙ so.points i) in omega arith

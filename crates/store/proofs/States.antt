@@ -1,7 +1,8 @@
 -- What the items of a table say of a point, by the records.
-use Rattle.std.proofs.Common.{◌≡◌, ℕ, zero, suc, ◌+◌, ◌-◌, ◌<◌, ◌≤◌, eqb, ◌⊎◌, List, [], ◌∷◌, length, set, Some, None, Option, sym, refl, ap, ◌∙◌, inl, inr, ⊎_elim, arith}
+use Rattle.std.proofs.Common.{◌≡◌, ℕ, zero, suc, ◌+◌, ◌-◌, ◌<◌, ◌≤◌, eqb, ◌⊎◌, List, [], ◌∷◌, length, set, get_or, Some, None, Option, sym, refl, ap, ◌∙◌, inl, inr, ⊎_elim, arith}
 use Rattle.std.specs.List.{slice_get}
 use Rattle.std.specs.Map.{update}
+use Rattle.std.proofs.lemmas.Option.{slice_get-get_or}
 use Rattle.std.proofs.lemmas.Map.{update_here, update_apart}
 use Rattle.std.proofs.lemmas.List.{length-set}
 use Rattle.std.proofs.lemmas.Bool.{cases_eq, eq-eqb, ne_eqb, cond-true, cond-false}
@@ -23,6 +24,15 @@ look_absent (e ∷ es) [] (suc n) p h = refl
 look_absent (e ∷ es) (s ∷ ss) (suc n) p h =
     cond-false (eqb p e.point) (Some s) (look (held es ss n) p) (ne_eqb p e.point (λ x. h 0 (omega arith) (sym x)))
     ∙ look_absent es ss n p (λ i b. h (suc i) (omega arith))
+
+-- with no records in use there is no item
+pub held_none : {S : Type 0} (es : List Entry) (ss : List S) (n : ℕ) → n ≡ 0 → held es ss n ≡ []
+unfolding held
+held_none es ss n e = ap (λ (k : ℕ). held es ss k) e
+
+-- so no point has a state
+pub look_none : {S : Type 0} (es : List Entry) (ss : List S) (n q : ℕ) → n ≡ 0 → look (held es ss n) q ≡ None
+look_none es ss n q e = look_absent es ss n q (λ i b. absurd (omega arith))
 
 -- a point with a record has the state there
 pub look_found : {S : Type 0} (es : List Entry) (ss : List S) (used i p : ℕ) → Apart es used → used ≤ length es → used ≤ length ss
@@ -94,6 +104,12 @@ nth_set_other (x ∷ xs) (suc i) (suc k) s n = nth_set_other xs i k s (λ e. n (
 -- a write of one state
 pub written : {S : Type 0} (ss : List S) (i : ℕ) (s : S) → i < length ss → Written ss (set ss i s) i (Some s)
 written ss i s b = record { len = length-set ss i s; here = nth_set_same ss i s b; others = λ k n. nth_set_other ss i k s n }
+
+-- a write of the state at another place
+pub written_from : {S : Type 0} (ss : List S) (i k : ℕ) (d : S) → i < length ss → k < length ss → Written ss (set ss i (get_or ss k d)) i (slice_get ss k)
+written_from ss i k d b c =
+    let w = written ss i (get_or ss k d) b in
+    record { len = w.len; here = w.here ∙ sym (slice_get-get_or ss k d c); others = w.others }
 
 -- there is something at each place of a list
 nth_some : {S : Type 0} (ss : List S) (i : ℕ) → i < length ss → slice_get ss i ≡ None → ⊥

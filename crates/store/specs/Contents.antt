@@ -3,15 +3,15 @@ use Rattle.std.specs.Prelude.{◌≡◌, ℕ, ◌≤◌, List, length, Some, Opt
 use Rattle.std.specs.List.{slice_get}
 use Rattle.store.specs.declared.Store.{Store}
 use Rattle.store.specs.Items.{look}
-use Rattle.store.specs.Layout.{content}
+use Rattle.store.specs.Layout.{held}
 
 -- what it holds, in an order that is open
 unfoldable pub items : {S : Type 0} → Store S → List (ℕ × S)
-items m = content m.table
+items m = held m.table.entries.now m.records.now m.table.used
 
 -- how many points it can hold
 unfoldable pub capacity : {S : Type 0} → Store S → ℕ
-capacity m = m.table.room
+capacity m = m.room
 
 -- the state of the point p
 abbrev pub status : {S : Type 0} → Store S → ℕ → Option S

@@ -4,8 +4,6 @@ use Rattle.std.specs.Prelude.{◌≡◌, ℕ, ◌+◌, ◌-◌, ◌*◌, ◌/◌
 use Rattle.store.specs.declared.entry.Entry.{Entry}
 use Rattle.store.specs.declared.entry.Slot.{Slot}
 use Rattle.store.specs.declared.entry.Slot.TheVariants.{Empty, Gone, At}
-use Rattle.store.specs.declared.probe.Seen.{Seen}
-use Rattle.store.specs.declared.probe.Seen.TheVariants.{Found, Stop, Through}
 
 -- an entry with an empty slot
 abbrev pub blank : Entry
@@ -54,12 +52,6 @@ Place es used p i = (i < used) × (point_at es i ≡ p)
 -- no slot from a to b leads to a record with the point p
 abbrev pub Clear : List Entry → ℕ → ℕ → ℕ → Type 0
 Clear es p a b = (k i : ℕ) → a ≤ k → k < b → slot_at es k ≡ At i → point_at es i ≢ p
-
--- what a scan for p from a to b says
-abbrev pub Scanned : List Entry → ℕ → ℕ → ℕ → ℕ → Seen → Type 0
-Scanned es used p a b (Found i) = Place es used p i
-Scanned es used p a b (Stop j) = (a ≤ j) × (j < b) × (slot_at es j ≡ Empty) × Clear es p a j
-Scanned es used p a b Through = Clear es p a b
 
 -- whether a slot leads to a record
 abbrev pub taken : Slot → Bool

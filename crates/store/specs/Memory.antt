@@ -4,7 +4,7 @@ use Rattle.store.specs.declared.Store.{Store}
 
 -- how many records were lent
 abbrev pub places : {S : Type 0} → Store S → ℕ
-places m = length m.table.records.now
+places m = length m.records.now
 
 -- how many lookup entries were lent
 abbrev pub lookups : {S : Type 0} → Store S → ℕ

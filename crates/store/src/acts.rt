@@ -1,14 +1,24 @@
 // What a store does.
-ghost use Rattle.std.specs.Prelude.{◌≡◌, ℕ, [], length, Some, None};
+ghost use Rattle.std.specs.Prelude.{◌≡◌, ℕ, ◌+◌, ◌-◌, ◌<◌, ◌≤◌, [], length, Some, None};
 ghost use Rattle.std.specs.List.{slice_get};
+ghost use Rattle.store.specs.Index.{point_at};
 ghost use Rattle.store.specs.Contents.{items, capacity, status, Holds};
-ghost use Rattle.store.specs.Items.{room_for, InsertAnswer, ReplaceAnswer, RemoveAnswer, Weeded};
+ghost use Rattle.store.specs.Layout.{Written};
+ghost use Rattle.store.specs.Items.{room_for, InsertAnswer, ReplaceAnswer, RemoveAnswer, Removed, Weeded};
 
 use super::Store;
 use super::entry::Entry;
 use super::fault::InsertFault;
 use super::picks::Picks;
 use super::table::Table;
+
+/// The room that slices of these lengths have for `n` records.
+pub(crate) fn room_for(n: usize, records: usize, entries: usize) -> usize
+    ensures value { result ≡ room_for n records entries }
+    ensures bound { (result ≤ records) × (result ≤ entries) }
+{
+    if n <= records && n <= entries { n } else { 0 }
+}
 
 impl<'m, S: Copy> Store<'m, S> {
     /// A store that holds nothing, with room for `room` points, or for none where a slice is shorter than that.
@@ -17,39 +27,44 @@ impl<'m, S: Copy> Store<'m, S> {
         ensures none { (q : ℕ) → status result q ≡ None }
         ensures room { capacity result ≡ room_for room (length records.old) (length entries.old) }
     {
-        let table = Table::new(room, records, entries);
-        Store { table }
+        Store {
+            room: room_for(room, records.len(), entries.len()),
+            records,
+            table: Table::new(entries),
+        }
     }
 
     /// How many points it can hold.
     pub fn capacity(&self) -> usize
         ensures { result ≡ capacity self.now }
     {
-        self.table.capacity()
+        self.room
     }
 
     /// How many points it holds.
     pub fn len(&self) -> usize
         ensures { result ≡ length (items self.now) }
     {
-        self.table.len()
+        self.table.used
     }
 
     /// The state of a point.
     pub fn get(&self, point: u32) -> Option<S>
         ensures { result ≡ status self.now point }
     {
-        match self.table.place(point) {
-            Some(i) => Some(self.table.state(i)),
-            None => None,
-        }
+        let i = self.table.find(point)?;
+        Some(self.records[i])
     }
 
     /// The item of number `i`, in an order that is open.
     pub fn at(&self, i: usize) -> Option<(u32, S)>
         ensures { result ≡ slice_get (items self.now) i }
     {
-        self.table.item(i)
+        if i < self.table.used {
+            Some((self.table.entries[i].point, self.records[i]))
+        } else {
+            None
+        }
     }
 
     /// Gives a state to a point that has none.
@@ -57,13 +72,15 @@ impl<'m, S: Copy> Store<'m, S> {
         ensures answer { InsertAnswer (items self.old) (items self.new) (capacity self.old) point state result }
         ensures room { capacity self.new ≡ capacity self.old }
     {
-        if let Some(_) = self.table.place(point) {
+        if self.table.find(point).is_some() {
             return Err(InsertFault::Known);
         }
-        if self.table.len() == self.table.capacity() {
+        let used = self.table.used;
+        if used == self.room {
             return Err(InsertFault::Full);
         }
-        self.table.push(point, state);
+        self.table.push(point);
+        self.records[used] = state;
         Ok(())
     }
 
@@ -72,13 +89,11 @@ impl<'m, S: Copy> Store<'m, S> {
         ensures answer { ReplaceAnswer (items self.old) (items self.new) point state result }
         ensures room { capacity self.new ≡ capacity self.old }
     {
-        match self.table.place(point) {
-            Some(i) => {
-                self.table.put(i, state);
-                true
-            }
-            None => false,
-        }
+        let Some(i) = self.table.find(point) else {
+            return false;
+        };
+        self.records[i] = state;
+        true
     }
 
     /// Removes a point, and tells whether it had a state.
@@ -86,21 +101,39 @@ impl<'m, S: Copy> Store<'m, S> {
         ensures answer { RemoveAnswer (items self.old) (items self.new) point result }
         ensures room { capacity self.new ≡ capacity self.old }
     {
-        match self.table.place(point) {
-            Some(i) => {
-                self.table.drop_at(i);
-                true
-            }
-            None => false,
-        }
+        let Some(i) = self.table.find(point) else {
+            return false;
+        };
+        self.remove_at(i);
+        true
     }
 
-    /// Removes each point whose state is picked, and tells how many.
+    /// Removes each point whose state is picked, and tells how many. It goes downward, so that what takes a removed record's
+    /// place was looked at before.
     pub fn remove_picked<P: Picks<S>>(&mut self, picks: &P) -> usize
         ensures weeded { Weeded (items self.old) (items self.new) (P.picked picks.now) result }
         ensures room { capacity self.new ≡ capacity self.old }
     {
-        self.table.weed(picks)
+        let mut n = 0;
+        for k in (0..self.table.used).rev() {
+            if picks.picks(self.records[k]) {
+                self.remove_at(k);
+                n += 1;
+            }
+        }
+        n
+    }
+
+    /// Removes the point of record `i`: the last record takes its place.
+    fn remove_at(&mut self, i: usize)
+        requires { i < self.old.table.used }
+        ensures room { capacity self.new ≡ capacity self.old }
+        ensures used { self.new.table.used + 1 ≡ self.old.table.used }
+        ensures moved { Written self.old.records.now self.new.records.now i (slice_get self.old.records.now (self.old.table.used - 1)) }
+        ensures removed { Removed (items self.old) (items self.new) (point_at self.old.table.entries.now i) }
+    {
+        self.records[i] = self.records[self.table.used - 1];
+        self.table.remove(i);
     }
 
     /// Tells that the items are a finite map, for the proofs of a caller.

@@ -1,6 +1,6 @@
-// One lookup entry, and the writing of its parts.
-ghost use Rattle.std.specs.Prelude.{◌≡◌, ◌<◌, length};
-ghost use Rattle.store.specs.Index.{blank, point_at, SlotSet, RecordSet};
+// One lookup entry.
+ghost use Rattle.std.specs.Prelude.{◌≡◌};
+ghost use Rattle.store.specs.Index.{blank, taken};
 
 /// What a slot of the hash table holds: nothing yet, nothing any more, or the number of a record.
 #[derive(Clone, Copy)]
@@ -31,27 +31,11 @@ impl Entry {
     }
 }
 
-/// The point of record `i`.
-pub(crate) fn point_at(es: &[Entry], i: usize) -> u32
-    requires { i < length es.now }
-    ensures { result ≡ point_at es.now i }
-{
-    es[i].point
-}
-
-/// Writes the slot `j`.
-pub(crate) fn set_slot(es: &mut [Entry], j: usize, slot: Slot)
-    requires { j < length es.old }
-    ensures { SlotSet es.old es.new j slot }
-{
-    es[j].slot = slot;
-}
-
-/// Writes the point and the home of record `i`.
-pub(crate) fn set_record(es: &mut [Entry], i: usize, point: u32, home: usize)
-    requires { i < length es.old }
-    ensures { RecordSet es.old es.new i point home }
-{
-    es[i].point = point;
-    es[i].home = home;
+impl Slot {
+    /// Whether it leads to a record.
+    pub(crate) fn is_taken(self) -> bool
+        ensures { result ≡ taken self }
+    {
+        matches!(self, Slot::At(_))
+    }
 }

@@ -2,18 +2,16 @@
 // states, and one of lookup entries. It allocates nothing.
 #![tactic(auto)]
 
-ghost use Rattle.store.specs.Layout.{Kept};
+ghost use Rattle.std.specs.Prelude.{◌≤◌, length};
 
 use table::Table;
 
 mod acts;
 mod entry;
 mod fault;
-mod index;
 mod memory;
 mod picks;
 mod probe;
-mod records;
 mod table;
 #[cfg(test)]
 mod tests;
@@ -22,9 +20,13 @@ pub use entry::Entry;
 pub use fault::InsertFault;
 pub use picks::Picks;
 
-/// Its table is sound, whatever the lent memory held before.
+/// Room for so many records, of which those in use lie at the front of their slice, and the table that leads to them.
 #[derive(Drop)]
 pub struct Store<'m, S> {
-    table: Table<'m, S>,
-    ghost sound: { Kept table },
+    room: usize,
+    records: &'m mut [S],
+    table: Table<'m>,
+    ghost fits: { table.used ≤ room },
+    ghost records_suffice: { room ≤ length records.now },
+    ghost entries_suffice: { room ≤ length table.entries.now },
 }

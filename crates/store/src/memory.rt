@@ -2,33 +2,17 @@
 ghost use Rattle.std.specs.Prelude.{◌≡◌, ℕ, [], length, None};
 ghost use Rattle.store.specs.Contents.{items, capacity, status};
 ghost use Rattle.store.specs.Items.{room_for};
-ghost use Rattle.store.specs.Layout.{content, Kept};
 ghost use Rattle.store.specs.Memory.{places, lookups};
 
-use super::table::{Table, room_for};
-use super::{Store, index};
-
-impl<'m, S: Copy> Table<'m, S> {
-    fn reset(&mut self, room: usize)
-        ensures sound { Kept self.new }
-        ensures empty { content self.new ≡ [] }
-        ensures room { self.new.room ≡ room_for room (length self.old.records.now) (length self.old.entries.now) }
-    {
-        let records = self.records.len();
-        let entries = self.entries.len();
-        index::wipe(self.entries);
-        self.room = room_for(room, records, entries);
-        self.used = 0;
-        self.worn = 0;
-    }
-}
+use super::Store;
+use super::acts::room_for;
 
 impl<'m, S: Copy> Store<'m, S> {
     /// How many records were lent.
     pub fn places(&self) -> usize
         ensures { result ≡ places self.now }
     {
-        self.table.records.len()
+        self.records.len()
     }
 
     /// How many lookup entries were lent.
@@ -44,7 +28,9 @@ impl<'m, S: Copy> Store<'m, S> {
         ensures none { (q : ℕ) → status self.new q ≡ None }
         ensures room { capacity self.new ≡ room_for room (places self.old) (lookups self.old) }
     {
-        self.table.reset(room)
+        let room = room_for(room, self.places(), self.lookups());
+        self.table.clear();
+        self.room = room;
     }
 
     /// Holds nothing from now on, with the same capacity.
@@ -53,7 +39,6 @@ impl<'m, S: Copy> Store<'m, S> {
         ensures none { (q : ℕ) → status self.new q ≡ None }
         ensures room { capacity self.new ≡ capacity self.old }
     {
-        let capacity = self.table.capacity();
-        self.table.reset(capacity)
+        self.reset(self.room)
     }
 }

@@ -1,12 +1,14 @@
 -- The state in the record that the table finds is that of the point.
-use Rattle.std.proofs.Common.{sym, ◌∙◌}
-use Rattle.store.specs.Contents.{items}
+use Rattle.std.proofs.Common.{sym, ◌∙◌, arith}
+use Rattle.std.proofs.lemmas.Option.{slice_get-get_or}
+use Rattle.store.proofs.Known.{unknown, state_of}
 use Rattle.store.proofs.Store.get.Goals as goal
 
-pub returns-in-Some : goal.returns-in-Some
-unfolding items
-returns-in-Some g c = sym (c.in-Some.ensures.state ∙ c.state.ensures)
+pub returns-in_err-i : goal.returns-in_err-i
+returns-in_err-i g c = c.from_residual.ensures ∙ sym (unknown c.args.self.now c.args.point c.in_err-i.ensures)
 
-pub returns-in-None : goal.returns-in-None
-unfolding items
-returns-in-None g c = sym c.in-None.ensures
+pub returns : goal.returns
+returns g c =
+    let m = c.args.self.now in
+    let p = c.in_ok-i.ensures in
+    sym (state_of m c.args.point c.in_ok-i.i p ∙ slice_get-get_or m.records.now c.in_ok-i.i c.index-self-i.result (omega (arith, p.0)))

@@ -1,26 +1,30 @@
--- A point that is known or finds no room alters nothing, and any other is pushed.
-use Rattle.std.proofs.Common.{refl, arith}
+-- A point that is known or finds no room alters nothing, and any other is added.
+use Rattle.std.proofs.Common.{refl, sym, ◌∙◌, arith}
 use Rattle.store.specs.Contents.{items, capacity}
-use Rattle.store.proofs.Once.{sound_of}
+use Rattle.store.proofs.Known.{unknown, known_if, absent_if}
+use Rattle.store.proofs.Changes.{count, inserted}
 use Rattle.store.proofs.Store.insert.Goals as goal
 
-pub returns-in-Some : goal.returns-in-Some
-unfolding items capacity
-returns-in-Some g c = record { answer = (c.in-Some.ensures.known, refl); room = refl }
+pub returns-then-is_some-clause-answer : goal.returns-then-is_some-clause-answer
+returns-then-is_some-clause-answer g c =
+    (known_if c.args.self.now c.args.point c.find.result c.find.ensures (sym c.is_some.ensures ∙ c.if-is_some.true), refl)
 
-pub returns-then-len-capacity : goal.returns-then-len-capacity
-unfolding items capacity
-returns-then-len-capacity g c = record { answer = ((c.in_default.ensures, omega arith), refl); room = refl }
-
-pub push-requires : goal.push-requires
-push-requires g c =
+pub returns-then-used-self-clause-answer : goal.returns-then-used-self-clause-answer
+unfolding capacity
+returns-then-used-self-clause-answer g c =
     let m = c.args.self.now in
-    let ok = sound_of m.table m.sound in
-    record { sound = m.sound; absent = c.in_default.ensures; room = omega arith }
+    let a = absent_if m c.args.point c.find.result c.find.ensures (sym c.is_some.ensures ∙ c.if-is_some.false) in
+    ((unknown m c.args.point a, omega (arith, count m)), refl)
 
-pub returns : goal.returns
+pub returns-clause-answer : goal.returns-clause-answer
 unfolding items capacity
-returns g c =
+returns-clause-answer g c =
     let m = c.args.self.now in
-    let ok = sound_of m.table m.sound in
-    record { answer = (omega arith, c.push.ensures.inserted); room = c.push.ensures.room }
+    let a = absent_if m c.args.point c.find.result c.find.ensures (sym c.is_some.ensures ∙ c.if-is_some.false) in (
+      omega (arith, count m),
+      inserted m c.push.new.self.entries.now c.push.new.self.used c.args.point c.args.state (omega arith) a c.push.ensures.added c.push.ensures.used,
+    )
+
+pub returns-clause-room : goal.returns-clause-room
+unfolding capacity
+returns-clause-room g c = refl

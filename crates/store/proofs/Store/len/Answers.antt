@@ -1,8 +1,7 @@
--- The table counts the items of the store.
-use Rattle.std.proofs.Common.{rules}
-use Rattle.store.specs.Contents.{items, capacity}
+-- There are as many items as records in use.
+use Rattle.std.proofs.Common.{sym}
+use Rattle.store.proofs.Changes.{count}
 use Rattle.store.proofs.Store.len.Goals as goal
 
 pub returns : goal.returns
-unfolding items capacity
-returns g c = search rules
+returns g c = sym (count c.args.self.now)

@@ -1,13 +1,16 @@
--- A new table holds nothing.
-use Rattle.std.proofs.Common.{ℕ, List, ap}
-use Rattle.store.specs.Items.{look}
+-- A table with no records in use holds nothing.
 use Rattle.store.specs.Contents.{items, capacity}
+use Rattle.store.proofs.States.{held_none, look_none}
 use Rattle.store.proofs.Store.new.Goals as goal
 
-pub returns : goal.returns
-unfolding items capacity look
-returns g c = record {
-  empty = c.new-table.ensures.empty;
-  none = λ q. ap (λ (xs : List (ℕ × _)). look xs q) c.new-table.ensures.empty;
-  room = c.new-table.ensures.room;
-}
+pub returns-clause-empty : goal.returns-clause-empty
+unfolding items
+returns-clause-empty g c = held_none c.new.result.entries.now c.args.records.now c.new.result.used c.new.ensures.used
+
+pub returns-clause-none : goal.returns-clause-none
+unfolding items
+returns-clause-none g c = λ q. look_none c.new.result.entries.now c.args.records.now c.new.result.used q c.new.ensures.used
+
+pub returns-clause-room : goal.returns-clause-room
+unfolding capacity
+returns-clause-room g c = c.room_for.ensures.value

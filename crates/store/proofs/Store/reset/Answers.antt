@@ -1,13 +1,17 @@
--- A table that is reset holds nothing.
-use Rattle.std.proofs.Common.{ℕ, List, ap}
-use Rattle.store.specs.Items.{look}
+-- A table with no records in use holds nothing.
+use Rattle.std.proofs.Common.{rules}
 use Rattle.store.specs.Contents.{items, capacity}
+use Rattle.store.proofs.States.{held_none, look_none}
 use Rattle.store.proofs.Store.reset.Goals as goal
 
-pub returns : goal.returns
-unfolding items capacity look
-returns g c = record {
-  empty = c.reset.ensures.empty;
-  none = λ q. ap (λ (xs : List (ℕ × _)). look xs q) c.reset.ensures.empty;
-  room = c.reset.ensures.room;
-}
+pub returns-clause-empty : goal.returns-clause-empty
+unfolding items
+returns-clause-empty g c = held_none c.clear.new.self.entries.now c.args.self.now.records.now c.clear.new.self.used c.clear.ensures.used
+
+pub returns-clause-none : goal.returns-clause-none
+unfolding items
+returns-clause-none g c = λ q. look_none c.clear.new.self.entries.now c.args.self.now.records.now c.clear.new.self.used q c.clear.ensures.used
+
+pub returns-clause-room : goal.returns-clause-room
+unfolding capacity
+returns-clause-room g c = search rules
