@@ -49,10 +49,6 @@ Absent es used p = (i : ℕ) → i < used → point_at es i ≢ p
 abbrev pub Place : List Entry → ℕ → ℕ → ℕ → Type 0
 Place es used p i = (i < used) × (point_at es i ≡ p)
 
--- no slot from a to b leads to a record with the point p
-abbrev pub Clear : List Entry → ℕ → ℕ → ℕ → Type 0
-Clear es p a b = (k i : ℕ) → a ≤ k → k < b → slot_at es k ≡ At i → point_at es i ≢ p
-
 -- whether a slot leads to a record
 abbrev pub taken : Slot → Bool
 taken Empty = false
@@ -62,10 +58,6 @@ taken (At i) = true
 -- each slot from a to b is taken
 abbrev pub Taken : List Entry → ℕ → ℕ → Type 0
 Taken es a b = (k : ℕ) → a ≤ k → k < b → taken (slot_at es k) ≡ true
-
--- j is the first slot from a to b that is not taken
-abbrev pub Vacancy : List Entry → ℕ → ℕ → ℕ → Type 0
-Vacancy es a b j = (a ≤ j) × (j < b) × (taken (slot_at es j) ≡ false) × Taken es a j
 
 -- j is the first slot that is not taken, on the way from a
 pub record Free (es : List Entry) (a j : ℕ) : Type 0 where

@@ -9,16 +9,9 @@ ghost use Rattle.store.specs.Items.{room_for, InsertAnswer, ReplaceAnswer, Remov
 use super::Store;
 use super::entry::Entry;
 use super::fault::InsertFault;
+use super::memory::room_for;
 use super::picks::Picks;
 use super::table::Table;
-
-/// The room that slices of these lengths have for `n` records.
-pub(crate) fn room_for(n: usize, records: usize, entries: usize) -> usize
-    ensures value { result ≡ room_for n records entries }
-    ensures bound { (result ≤ records) × (result ≤ entries) }
-{
-    if n <= records && n <= entries { n } else { 0 }
-}
 
 impl<'m, S: Copy> Store<'m, S> {
     /// A store that holds nothing, with room for `room` points, or for none where a slice is shorter than that.

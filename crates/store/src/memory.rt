@@ -1,11 +1,18 @@
 // The memory of a store, and its use anew.
-ghost use Rattle.std.specs.Prelude.{◌≡◌, ℕ, [], length, None};
+ghost use Rattle.std.specs.Prelude.{◌≡◌, ◌≤◌, ℕ, [], length, None};
 ghost use Rattle.store.specs.Contents.{items, capacity, status};
 ghost use Rattle.store.specs.Items.{room_for};
 ghost use Rattle.store.specs.Memory.{places, lookups};
 
 use super::Store;
-use super::acts::room_for;
+
+/// The room that slices of these lengths have for `n` records.
+pub(crate) fn room_for(n: usize, records: usize, entries: usize) -> usize
+    ensures value { result ≡ room_for n records entries }
+    ensures bound { (result ≤ records) × (result ≤ entries) }
+{
+    if n <= records && n <= entries { n } else { 0 }
+}
 
 impl<'m, S: Copy> Store<'m, S> {
     /// How many records were lent.

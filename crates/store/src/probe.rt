@@ -5,13 +5,16 @@ ghost use Rattle.store.specs.Index.{Absent, Free, Place, start_of};
 use super::entry::Slot;
 use super::table::Table;
 
+/// 2^32 over the golden ratio, so that points that lie close together begin far apart.
+const SPREAD: u32 = 2_654_435_769;
+
 /// The slot at which the search for a point begins, of `n`.
 fn start(p: u32, n: usize) -> usize
     requires { 0 < n }
     ensures value { result ≡ start_of p n }
     ensures bound { result < n }
 {
-    p.wrapping_mul(2654435769) as usize % n
+    p.wrapping_mul(SPREAD) as usize % n
 }
 
 impl<'m> Table<'m> {

@@ -1,8 +1,8 @@
--- The capacity of the table is that of the store.
-use Rattle.std.proofs.Common.{rules}
-use Rattle.store.specs.Contents.{items, capacity}
+-- The capacity is the room.
+use Rattle.std.proofs.Common.{refl}
+use Rattle.store.specs.Contents.{capacity}
 use Rattle.store.proofs.Store.capacity.Goals as goal
 
 pub returns : goal.returns
-unfolding items capacity
-returns g c = search rules
+unfolding capacity
+returns g c = refl

@@ -11,4 +11,4 @@ pub returns : goal.returns
 returns g c =
     let m = c.args.self.now in
     let p = c.in_ok-i.ensures in
-    sym (state_of m c.args.point c.in_ok-i.i p ∙ slice_get-get_or m.records.now c.in_ok-i.i c.index-self-i.result (omega (arith, p.0)))
+    sym (state_of m c.args.point c.in_ok-i.i p ∙ slice_get-get_or m.records.now c.in_ok-i.i _ (omega (arith, p.0)))

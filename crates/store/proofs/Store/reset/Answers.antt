@@ -1,5 +1,5 @@
 -- A table with no records in use holds nothing.
-use Rattle.std.proofs.Common.{rules}
+use Rattle.std.proofs.Common.{◌∙◌}
 use Rattle.store.specs.Contents.{items, capacity}
 use Rattle.store.proofs.States.{held_none, look_none}
 use Rattle.store.proofs.Store.reset.Goals as goal
@@ -14,4 +14,4 @@ returns-clause-none g c = λ q. look_none c.clear.new.self.entries.now c.args.se
 
 pub returns-clause-room : goal.returns-clause-room
 unfolding capacity
-returns-clause-room g c = search rules
+returns-clause-room g c = c.room_for-room.ensures.value ∙ cc
