@@ -1,5 +1,5 @@
 -- The memory has room for the capacity.
-use Rattle.std.proofs.Common.{◌≡◌, ℕ, ◌≤◌, leb, length, ◌∙◌, arith}
+use Rattle.std.proofs.Common.{◌≡◌, ℕ, ◌≤◌, leb, length, ◌∙◌}
 use Rattle.std.proofs.lemmas.Bool.{cond-true, le-leb}
 use Rattle.store.specs.Items.{room_for}
 use Rattle.store.specs.Contents.{capacity}
