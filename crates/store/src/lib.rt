@@ -1,6 +1,6 @@
 // A finite map from 32-bit point numbers to states, over two slices that the caller lends: one of records, which are the
 // states, and one of lookup entries. It allocates nothing.
-#![tactic(auto)]
+#![tactic(auto, unfolding(crate::specs::Contents::items, crate::specs::Contents::capacity))]
 
 ghost use Rattle.std.specs.Prelude.{◌≤◌, length};
 

@@ -24,7 +24,3 @@ returns-clause-answer g c =
       omega (arith, count m),
       inserted m c.push.new.self.entries.now c.push.new.self.used c.args.point c.args.state (omega arith) a c.push.ensures.added c.push.ensures.used,
     )
-
-pub returns-clause-room : goal.returns-clause-room
-unfolding capacity
-returns-clause-room g c = refl

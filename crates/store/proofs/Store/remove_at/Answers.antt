@@ -5,10 +5,6 @@ use Rattle.store.proofs.States.{written_from}
 use Rattle.store.proofs.Changes.{removed}
 use Rattle.store.proofs.Store.remove_at.Goals as goal
 
-pub returns-clause-room : goal.returns-clause-room
-unfolding capacity
-returns-clause-room g c = refl
-
 pub returns-clause-moved : goal.returns-clause-moved
 returns-clause-moved g c =
     let m = c.args.self.now in

@@ -11,7 +11,3 @@ returns-in_default-clause-answer g c = (unknown c.args.self.now c.args.point c.i
 pub returns-clause-answer : goal.returns-clause-answer
 unfolding items
 returns-clause-answer g c = replaced c.args.self.now c.in-Some.i c.args.point c.args.state c.in-Some.ensures
-
-pub returns-clause-room : goal.returns-clause-room
-unfolding capacity
-returns-clause-room g c = refl
