@@ -1,12 +1,12 @@
 -- How an index changes by one record more.
 use Rattle.std.proofs.Common.{◌≡◌, ℕ, ◌+◌, ◌<◌, true, List, length, sym, refl, ap, ◌∙◌, subst, ⊎_elim, arith}
 use Rattle.std.proofs.lemmas.Bool.{cases_eq}
-use Rattle.store.specs.Index.{Index, Way, taken, slot_at, home_at, point_at, start_of, Absent, Free, RecordSet, SlotSet, Added}
+use Rattle.store.specs.Index.{Index, Way, taken, slot_at, home_at, point_at, start_of, Absent, Free, Added}
 use Rattle.store.specs.declared.entry.Entry.{Entry}
 use Rattle.store.specs.declared.entry.Slot.{Slot}
 use Rattle.store.specs.declared.entry.Slot.TheVariants.{Empty, At}
 use Rattle.store.proofs.Ways.{way_kept}
-use Rattle.store.proofs.Writes.{with_slot, with_record, slot_set, record_set}
+use Rattle.store.proofs.Writes.{SlotSet, RecordSet, with_slot, with_record, slot_set, record_set}
 
 -- what holds of the records before the last, and of the last
 each : (used : ℕ) (P : ℕ → Type 0) → P used → ((i : ℕ) → i < used → P i) → (i : ℕ) → i < used + 1 → P i

@@ -1,11 +1,11 @@
 -- How an index changes by one record less.
 use Rattle.std.proofs.Common.{◌≡◌, ℕ, ◌-◌, ◌<◌, List, length, sym, refl, ap, ◌∙◌, subst, ⊎_elim, arith}
 use Rattle.std.proofs.lemmas.Bool.{cases_eq}
-use Rattle.store.specs.Index.{Index, Way, slot_at, home_at, point_at, start_of, RecordSet, SlotSet, Dropped, Rehashed}
+use Rattle.store.specs.Index.{Index, Way, slot_at, home_at, point_at, start_of, Dropped, Rehashed}
 use Rattle.store.specs.declared.entry.Entry.{Entry}
 use Rattle.store.specs.declared.entry.Slot.TheVariants.{Empty, Gone, At}
 use Rattle.store.proofs.Ways.{way_kept}
-use Rattle.store.proofs.Writes.{with_slot, with_record, slot_set, record_set}
+use Rattle.store.proofs.Writes.{SlotSet, RecordSet, with_slot, with_record, slot_set, record_set}
 
 -- two records have two homes
 homes_apart : (es : List Entry) (used : ℕ) → Index es used → (m k : ℕ) → m < used → k < used → (m ≡ k → ⊥) → home_at es m ≡ home_at es k → ⊥

@@ -1,6 +1,6 @@
 -- What the items of a table say of a point, by the records.
-use Rattle.std.proofs.Common.{◌≡◌, ℕ, zero, suc, ◌+◌, ◌-◌, ◌<◌, ◌≤◌, eqb, ◌⊎◌, List, [], ◌∷◌, length, set, get_or, Some, None, Option, sym, refl, ap, ◌∙◌, inl, inr, ⊎_elim, arith}
-use Rattle.std.specs.List.{slice_get}
+use Rattle.std.proofs.Common.{◌≡◌, ℕ, zero, suc, map, take, ◌+◌, ◌-◌, ◌<◌, ◌≤◌, eqb, ◌⊎◌, List, [], ◌∷◌, length, set, get_or, Some, None, Option, sym, refl, ap, ◌∙◌, inl, inr, ⊎_elim, arith}
+use Rattle.std.specs.List.{slice_get, zip}
 use Rattle.std.specs.Map.{update}
 use Rattle.std.proofs.lemmas.Option.{slice_get-get_or}
 use Rattle.std.proofs.lemmas.Map.{update_here, update_apart}
@@ -210,3 +210,11 @@ held_alike (e ∷ es) [] ss (suc n) l h = absurd (omega arith)
 held_alike (e ∷ es) (f ∷ fs) [] (suc n) l h = refl
 held_alike (e ∷ es) (f ∷ fs) (s ∷ ss) (suc n) l h =
     let r = held_alike es fs ss n (omega arith) (λ k. h (suc k)) in let x = h 0 in cc
+
+-- the first entries beside the first records are the items
+pub held_front : {S : Type 0} (es : List Entry) (ss : List S) (used : ℕ) → zip (map (λ e. e.point) (take used es)) (take used ss) ≡ held es ss used
+unfolding held
+held_front es ss zero = refl
+held_front [] ss (suc n) = refl
+held_front (e ∷ es) [] (suc n) = refl
+held_front (e ∷ es) (s ∷ ss) (suc n) = ap (λ (xs : List (ℕ × _)). (e.point, s) ∷ xs) (held_front es ss n)

@@ -1,10 +1,27 @@
 -- What a write of one part of an entry does.
-use Rattle.std.proofs.Common.{◌≡◌, ℕ, ◌<◌, List, length, set, get_or, refl, sym, ap, ◌∙◌, ⊎_elim}
+use Rattle.std.proofs.Common.{◌≡◌, ◌≢◌, ℕ, ◌<◌, List, length, set, get_or, refl, sym, ap, ◌∙◌, ⊎_elim}
 use Rattle.std.proofs.lemmas.Bool.{cases_eq}
 use Rattle.std.proofs.lemmas.List.{length-set, get_or-set_same, get_or-set_other}
-use Rattle.store.specs.Index.{blank, SlotSet, RecordSet}
+use Rattle.store.specs.Index.{blank, slot_at, point_at, home_at}
 use Rattle.store.specs.declared.entry.Entry.{Entry}
 use Rattle.store.specs.declared.entry.Slot.{Slot}
+
+-- the slot j holds t, and all else is as before
+pub record SlotSet (es fs : List Entry) (j : ℕ) (t : Slot) : Type 0 where
+  pub len : length fs ≡ length es
+  pub here : slot_at fs j ≡ t
+  pub other : (k : ℕ) → (k ≢ j) → slot_at fs k ≡ slot_at es k
+  pub points : (k : ℕ) → point_at fs k ≡ point_at es k
+  pub homes : (k : ℕ) → home_at fs k ≡ home_at es k
+
+-- record i has the point p and the home h, and all else is as before
+pub record RecordSet (es fs : List Entry) (i p h : ℕ) : Type 0 where
+  pub len : length fs ≡ length es
+  pub slots : (k : ℕ) → slot_at fs k ≡ slot_at es k
+  pub point_here : point_at fs i ≡ p
+  pub home_here : home_at fs i ≡ h
+  pub point_other : (k : ℕ) → (k ≢ i) → point_at fs k ≡ point_at es k
+  pub home_other : (k : ℕ) → (k ≢ i) → home_at fs k ≡ home_at es k
 
 -- the slot j holds t
 abbrev pub with_slot : List Entry → ℕ → Slot → List Entry

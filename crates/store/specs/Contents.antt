@@ -1,13 +1,18 @@
 -- What a store is to its users: its items, the state of each point, and its capacity.
-use Rattle.std.specs.Prelude.{◌≡◌, ℕ, ◌≤◌, List, length, Some, Option}
-use Rattle.std.specs.List.{slice_get}
+use Rattle.std.specs.Prelude.{◌≡◌, ℕ, ◌≤◌, List, length, map, Some, Option}
+use Rattle.std.specs.List.{slice_get, zip}
 use Rattle.store.specs.declared.Store.{Store}
+use Rattle.store.specs.declared.items.Items.{Items}
 use Rattle.store.specs.Items.{look}
 use Rattle.store.specs.Layout.{held}
 
 -- what it holds, in an order that is open
 unfoldable pub items : {S : Type 0} → Store S → List (ℕ × S)
 items m = held m.table.entries.now m.records.now m.table.used
+
+-- what an iterator over the items has still to yield
+abbrev pub left : {S : Type 0} → Items S → List (ℕ × S)
+left i = zip (map (λ e. e.point) i.entries.now) i.records.now
 
 -- how many points it can hold
 unfoldable pub capacity : {S : Type 0} → Store S → ℕ

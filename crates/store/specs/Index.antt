@@ -71,23 +71,6 @@ pub record Free (es : List Entry) (a j : ℕ) : Type 0 where
   pub round : j < a → Taken es a (length es)
   pub low : j < a → Taken es 0 j
 
--- the slot j holds t, and all else is as before
-pub record SlotSet (es fs : List Entry) (j : ℕ) (t : Slot) : Type 0 where
-  pub len : length fs ≡ length es
-  pub here : slot_at fs j ≡ t
-  pub other : (k : ℕ) → (k ≢ j) → slot_at fs k ≡ slot_at es k
-  pub points : (k : ℕ) → point_at fs k ≡ point_at es k
-  pub homes : (k : ℕ) → home_at fs k ≡ home_at es k
-
--- record i has the point p and the home h, and all else is as before
-pub record RecordSet (es fs : List Entry) (i p h : ℕ) : Type 0 where
-  pub len : length fs ≡ length es
-  pub slots : (k : ℕ) → slot_at fs k ≡ slot_at es k
-  pub point_here : point_at fs i ≡ p
-  pub home_here : home_at fs i ≡ h
-  pub point_other : (k : ℕ) → (k ≢ i) → point_at fs k ≡ point_at es k
-  pub home_other : (k : ℕ) → (k ≢ i) → home_at fs k ≡ home_at es k
-
 -- one record more, with the point p
 pub record Added (es fs : List Entry) (used p : ℕ) : Type 0 where
   pub index : Index fs (used + 1)

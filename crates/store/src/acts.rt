@@ -1,14 +1,15 @@
 // What a store does.
-ghost use Rattle.std.specs.Prelude.{◌≡◌, ℕ, ◌+◌, ◌-◌, ◌<◌, ◌≤◌, [], length, Some, None};
+ghost use Rattle.std.specs.Prelude.{◌≡◌, ℕ, ◌+◌, ◌-◌, ◌^◌, ◌<◌, ◌≤◌, [], length, Some, None};
 ghost use Rattle.std.specs.List.{slice_get};
 ghost use Rattle.store.specs.Index.{point_at};
-ghost use Rattle.store.specs.Contents.{items, capacity, status, Holds};
+ghost use Rattle.store.specs.Contents.{items, capacity, status, left, Holds};
 ghost use Rattle.store.specs.Layout.{Written};
 ghost use Rattle.store.specs.Items.{room_for, InsertAnswer, ReplaceAnswer, RemoveAnswer, Removed, Weeded};
 
 use super::Store;
 use super::entry::Entry;
 use super::fault::InsertFault;
+use super::items::Items;
 use super::memory::room_for;
 use super::picks::Picks;
 use super::table::Table;
@@ -57,6 +58,18 @@ impl<'m, S: Copy> Store<'m, S> {
             Some((self.table.entries[i].point, self.records[i]))
         } else {
             None
+        }
+    }
+
+    /// The items, in that order.
+    pub fn iter(&self) -> Items<'_, S>
+        ensures items { left result ≡ items self.now }
+        ensures bound { length (left result) < 2 ^ 64 }
+    {
+        let n = self.table.used;
+        Items {
+            entries: &self.table.entries[..n],
+            records: &self.records[..n],
         }
     }
 

@@ -9,6 +9,7 @@ use table::Table;
 mod acts;
 mod entry;
 mod fault;
+mod items;
 mod memory;
 mod picks;
 mod probe;
@@ -18,6 +19,7 @@ mod tests;
 
 pub use entry::Entry;
 pub use fault::InsertFault;
+pub use items::Items;
 pub use picks::Picks;
 
 /// Room for so many records, of which those in use lie at the front of their slice, and the table that leads to them.

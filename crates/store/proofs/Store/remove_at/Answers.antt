@@ -1,14 +1,9 @@
 -- The table without the record, and the states with the last one moved.
-use Rattle.std.proofs.Common.{◌-◌, refl, arith}
-use Rattle.store.specs.Contents.{items, capacity}
+use Rattle.std.proofs.Common.{◌-◌, arith}
+use Rattle.store.specs.Contents.{items}
 use Rattle.store.proofs.States.{written_from}
 use Rattle.store.proofs.Changes.{removed}
 use Rattle.store.proofs.Store.remove_at.Goals as goal
-
-pub returns-clause-moved : goal.returns-clause-moved
-returns-clause-moved g c =
-    let m = c.args.self.now in
-    written_from m.records.now c.args.i (m.table.used - 1) c.index-self-self.result (omega arith) (omega arith)
 
 pub returns-clause-removed : goal.returns-clause-removed
 unfolding items

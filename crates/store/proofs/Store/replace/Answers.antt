@@ -1,6 +1,6 @@
 -- Of a point that the table finds, the record has another state.
 use Rattle.std.proofs.Common.{refl}
-use Rattle.store.specs.Contents.{items, capacity}
+use Rattle.store.specs.Contents.{items}
 use Rattle.store.proofs.Known.{unknown}
 use Rattle.store.proofs.Changes.{replaced}
 use Rattle.store.proofs.Store.replace.Goals as goal

@@ -6,8 +6,3 @@ pub invariant_of-self : goal.invariant_of-self
 invariant_of-self c =
     let t = c.args.self.now in
     record { sound = (pushed t.entries.now t.used c.args.p c.vacancy-j.result t.sound c.requires.room c.requires.absent c.vacancy-j.ensures).index }
-
-pub returns-clause-added : goal.returns-clause-added
-returns-clause-added c =
-    let t = c.args.self.now in
-    pushed t.entries.now t.used c.args.p c.vacancy-j.result t.sound c.requires.room c.requires.absent c.vacancy-j.ensures

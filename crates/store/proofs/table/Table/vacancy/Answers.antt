@@ -1,8 +1,7 @@
 -- The way leads round all slots, and one of them is not taken.
-use Rattle.std.proofs.Common.{ℕ, length, subst, arith, rules}
+use Rattle.std.proofs.Common.{ℕ, subst, arith, rules}
 use Rattle.store.specs.Index.{Free}
-use Rattle.store.proofs.Rounds.{first_more}
-use Rattle.store.proofs.Vacancies.{TakenAt, free_at, all_taken}
+use Rattle.store.proofs.Vacancies.{free_at, all_taken}
 use Rattle.store.proofs.table.Table.vacancy.Goals as goal
 
 pub returns-then-not-is_taken : goal.returns-then-not-is_taken
@@ -11,12 +10,6 @@ returns-then-not-is_taken c =
     let h = c.start-h.result in
     subst (λ (a : ℕ). Free es a c.step-j.result) c.start-h.ensures.value
     (free_at es h c.loop-k.k c.step-j.result c.start-h.ensures.bound c.loop-k-test.true c.step-j.ensures.value c.loop-k.invariant (search rules))
-
-pub loop-k-preserved : goal.loop-k-preserved
-loop-k-preserved c =
-    let es = c.args.self.now.entries.now in
-    let h = c.start-h.result in
-    first_more (TakenAt es) h (length es) c.loop-k.k c.loop-k.invariant (subst (TakenAt es) c.step-j.ensures.value (search rules))
 
 pub unreachable-requires : goal.unreachable-requires
 unreachable-requires c =
