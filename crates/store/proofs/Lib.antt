@@ -1,4 +1,4 @@
--- Lemmas that several proofs share.
+-- Lemmas that several proofs share. `Facts` serves the crates above too.
 mod Pigeon
 mod Ways
 mod Rounds
@@ -9,7 +9,7 @@ mod Adding
 mod Dropping
 mod Rehashing
 mod States
-mod Facts
+pub mod Facts
 mod Known
 mod Changes
 mod Weeding

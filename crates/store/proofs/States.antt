@@ -4,7 +4,7 @@ use Rattle.std.specs.List.{slice_get, zip}
 use Rattle.std.specs.Map.{update}
 use Rattle.std.proofs.lemmas.Option.{slice_get-get_or}
 use Rattle.std.proofs.lemmas.Map.{update_here, update_apart}
-use Rattle.std.proofs.lemmas.List.{length-set}
+use Rattle.std.proofs.lemmas.List.{length-set, get_or-set_same}
 use Rattle.std.proofs.lemmas.Bool.{cases_eq, eq-eqb, ne_eqb, cond-true, cond-false}
 use Rattle.store.specs.Index.{Index, point_at, Absent, Place, Added, Dropped}
 use Rattle.store.specs.Items.{look}
@@ -89,9 +89,7 @@ which es (suc k) p = ⊎_elim (λ h. inl (k, (omega arith, h)))
 
 -- what is written is read
 nth_set_same : {S : Type 0} (ss : List S) (i : ℕ) (s : S) → i < length ss → slice_get (set ss i s) i ≡ Some s
-nth_set_same [] i s b = absurd (omega arith)
-nth_set_same (x ∷ xs) zero s b = refl
-nth_set_same (x ∷ xs) (suc i) s b = nth_set_same xs i s (omega arith)
+nth_set_same ss i s b = slice_get-get_or (set ss i s) i s (omega (arith, length-set ss i s)) ∙ ap Some (get_or-set_same ss i s s b)
 
 -- the other places are as before
 nth_set_other : {S : Type 0} (ss : List S) (i k : ℕ) (s : S) → (k ≡ i → ⊥) → slice_get (set ss i s) k ≡ slice_get ss k

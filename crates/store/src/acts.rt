@@ -121,6 +121,7 @@ impl<'m, S: Copy> Store<'m, S> {
         ensures room { capacity self.new ≡ capacity self.old }
     {
         let mut n = 0;
+        // An index loop: a turn may move the records.
         for k in (0..self.table.used).rev() {
             if picks.picks(self.records[k]) {
                 self.remove_at(k);

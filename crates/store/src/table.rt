@@ -111,6 +111,7 @@ impl<'m> Table<'m> {
     {
         let used = self.used;
         self.clear();
+        // An index loop: each turn writes the entries that it reads.
         for i in 0..used {
             let p = self.entries[i].point;
             self.push(p);
