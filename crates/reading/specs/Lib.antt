@@ -1,3 +1,2 @@
--- The definitions of places in a text and of what a refused reading tells.
-pub mod Cursor
+-- The definitions of what a refused reading tells.
 pub mod Layer

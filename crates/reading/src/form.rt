@@ -1,79 +1,70 @@
-// The tokens that a line's form needs, one after the other.
-ghost use Rattle.std.specs.Prelude.{◌^◌, ◌<◌, IfOk};
-ghost use Rattle.reading.specs.Cursor.{Onward, reach};
+// The tokens that the form of a grid text needs, one after the other.
+ghost use Rattle.std.specs.Prelude.{OnOk};
+ghost use Rattle.text.specs.Cursor.{Onward};
 
-use crate::cursor::Cursor;
 use crate::fault::FormFault;
-use text::lexer::next_token;
+use text::lexer::Cursor;
 use text::number::numeral_value;
 use text::token::Token;
 
-/// Passes over one of the marks `(`, `)`, space and line end.
-pub(crate) fn mark<'a>(at: Cursor<'a>, wanted: char) -> Result<Cursor<'a>, FormFault>
-    requires { reach at < 2 ^ 64 }
-    ensures { IfOk result (λ n. Onward at.entry n) }
-{
-    let (token, rest) = next_token(at.rest, at.place)?;
-    let found = match token {
-        Token::Open => '(',
-        Token::Close => ')',
-        Token::Space => ' ',
-        Token::LineEnd => '\n',
-        Token::Word(_, _) | Token::Numeral(_, _) => return Err(FormFault::OtherToken(at.place)),
-    };
-    if found != wanted {
-        return Err(FormFault::OtherToken(at.place));
+/// Takes a text apart by its form. A fault ends the reading, so that where the cursor stands then is left open.
+#[derive(Drop)]
+pub(crate) struct Parser<'a> {
+    pub(crate) at: Cursor<'a>,
+}
+
+impl<'a> Parser<'a> {
+    /// At the front of a text.
+    pub(crate) fn new(text: &'a [u8]) -> Parser<'a> {
+        Parser {
+            at: Cursor::new(text),
+        }
     }
-    Ok(Cursor {
-        rest,
-        place: at.place + 1,
-    })
-}
 
-/// Any word.
-pub(crate) fn word<'a>(at: Cursor<'a>) -> Result<(&'a [u8], Cursor<'a>), FormFault>
-    requires { reach at < 2 ^ 64 }
-    ensures { IfOk result (λ n. Onward at.entry n.1) }
-{
-    let (token, rest) = next_token(at.rest, at.place)?;
-    let Token::Word(letters, _) = token else {
-        return Err(FormFault::OtherToken(at.place));
-    };
-    let next = Cursor {
-        rest,
-        place: at.place + letters.len(),
-    };
-    Ok((letters, next))
-}
-
-/// Passes over one word.
-pub(crate) fn keyword<'a>(at: Cursor<'a>, wanted: &[u8]) -> Result<Cursor<'a>, FormFault>
-    requires { reach at < 2 ^ 64 }
-    ensures { IfOk result (λ n. Onward at.entry n) }
-{
-    let (letters, next) = word(at)?;
-    if letters == wanted {
-        Ok(next)
-    } else {
-        Err(FormFault::OtherToken(at.place))
+    /// Passes over one of the marks.
+    pub(crate) fn mark(&mut self, wanted: Token<'a>) -> Result<(), FormFault>
+        ensures { OnOk result (Onward self.old.at self.new.at) }
+    {
+        let place = self.at.place;
+        if self.at.next_token()? == wanted {
+            Ok(())
+        } else {
+            Err(FormFault::OtherToken(place))
+        }
     }
-}
 
-/// Any numeral, as the number that it writes.
-pub(crate) fn number<'a>(at: Cursor<'a>) -> Result<(i32, Cursor<'a>), FormFault>
-    requires { reach at < 2 ^ 64 }
-    ensures { IfOk result (λ n. Onward at.entry n.1) }
-{
-    let (token, rest) = next_token(at.rest, at.place)?;
-    let Token::Numeral(digits, _) = token else {
-        return Err(FormFault::OtherToken(at.place));
-    };
-    let Some(number) = numeral_value(digits) else {
-        return Err(FormFault::OtherToken(at.place));
-    };
-    let next = Cursor {
-        rest,
-        place: at.place + digits.len(),
-    };
-    Ok((number, next))
+    /// Any word.
+    pub(crate) fn word(&mut self) -> Result<&'a [u8], FormFault>
+        ensures { OnOk result (Onward self.old.at self.new.at) }
+    {
+        let place = self.at.place;
+        match self.at.next_token()? {
+            Token::Word(letters, _) => Ok(letters),
+            _ => Err(FormFault::OtherToken(place)),
+        }
+    }
+
+    /// Passes over one word.
+    pub(crate) fn keyword(&mut self, wanted: &[u8]) -> Result<(), FormFault>
+        ensures { OnOk result (Onward self.old.at self.new.at) }
+    {
+        let place = self.at.place;
+        if self.word()? == wanted {
+            Ok(())
+        } else {
+            Err(FormFault::OtherToken(place))
+        }
+    }
+
+    /// Any numeral, as the number that it writes.
+    pub(crate) fn number(&mut self) -> Result<i32, FormFault>
+        ensures { OnOk result (Onward self.old.at self.new.at) }
+    {
+        let place = self.at.place;
+        let value = match self.at.next_token()? {
+            Token::Numeral(digits, _) => numeral_value(digits),
+            _ => None,
+        };
+        value.ok_or(FormFault::OtherToken(place))
+    }
 }

@@ -19,12 +19,12 @@ pub enum Layer {
     Grid,
 }
 
-impl Layer {
-    /// The letter that a report prints.
-    pub fn letter(self) -> char
-        ensures { result ≡ letter_of self }
-    {
-        match self {
+/// The letter that a report prints.
+impl From<Layer> for char {
+    ghost from_gives = { λ layer r. r ≡ letter_of layer };
+
+    fn from(layer: Layer) -> char {
+        match layer {
             Layer::Word => 'W',
             Layer::Form => 'F',
             Layer::End => 'E',
@@ -86,14 +86,7 @@ impl FileFault {
 fn line_at(text: &[u8], byte: usize) -> usize
     ensures { result ≡ line_of text.now byte }
 {
-    let before = &text[0..byte.min(text.len())];
-    let mut ends = 0;
-    for b in before {
-        if *b == b'\n' {
-            ends += 1;
-        }
-    }
-    1 + ends
+    1 + text.iter().take(byte).filter(|b| **b == b'\n').count()
 }
 
 /// What a text's fault tells.

@@ -1,7 +1,6 @@
 // Reading a grid text into a grid.
 #![tactic(auto)]
 
-mod cursor;
 pub mod fault;
 mod form;
 pub mod layer;

@@ -1,10 +1,11 @@
 // The lines of a text.
-ghost use Rattle.std.specs.Prelude.{◌^◌, ◌<◌, ◌≤◌, IfOk};
-ghost use Rattle.reading.specs.Cursor.{Onward, reach};
+ghost use Rattle.std.specs.Prelude.{OnOk};
+ghost use Rattle.text.specs.Cursor.{Onward};
 
-use crate::cursor::Cursor;
 use crate::fault::FormFault;
-use crate::form::{keyword, mark, number, word};
+use crate::form::Parser;
+use points::dimensions::Dims;
+use text::token::Token;
 
 /// The numbers of a point line; coordinates past the grid's dimensions are 0.
 #[derive(Clone, Copy)]
@@ -13,92 +14,87 @@ pub(crate) struct PointLine {
     pub(crate) sample: i32,
 }
 
-/// The end of each line: a bracket and the line end.
-fn close<'a>(at: Cursor<'a>) -> Result<Cursor<'a>, FormFault>
-    requires { reach at < 2 ^ 64 }
-    ensures { IfOk result (λ n. Onward at.entry n) }
-{
-    let at = mark(at, ')')?;
-    mark(at, '\n')
-}
-
-/// Line 1, `(grid d)`, by its numeral.
-pub(crate) fn grid_line<'a>(at: Cursor<'a>) -> Result<(i32, Cursor<'a>), FormFault>
-    requires { reach at < 2 ^ 64 }
-    ensures { IfOk result (λ n. Onward at.entry n.1) }
-{
-    let at = mark(at, '(')?;
-    let at = keyword(at, b"grid")?;
-    let at = mark(at, ' ')?;
-    let (dimensions, at) = number(at)?;
-    Ok((dimensions, close(at)?))
-}
-
-/// Line 2, `(unit word)`, by its word.
-pub(crate) fn unit_line<'a>(at: Cursor<'a>) -> Result<(&'a [u8], Cursor<'a>), FormFault>
-    requires { reach at < 2 ^ 64 }
-    ensures { IfOk result (λ n. Onward at.entry n.1) }
-{
-    let at = mark(at, '(')?;
-    let at = keyword(at, b"unit")?;
-    let at = mark(at, ' ')?;
-    let (unit, at) = word(at)?;
-    Ok((unit, close(at)?))
-}
-
-/// As many coordinates as there are dimensions, parted by spaces.
-fn coordinates<'a>(at: Cursor<'a>, dimensions: usize) -> Result<([i32; 4], Cursor<'a>), FormFault>
-    requires reach { reach at < 2 ^ 64 }
-    requires few { dimensions ≤ 4 }
-    ensures { IfOk result (λ n. Onward at.entry n.1) }
-{
-    let mut found = [0; 4];
-    let (first, mut next) = number(at)?;
-    found[0] = first;
-    for i in 1..dimensions {
-        let after = mark(next, ' ')?;
-        let (k, rest) = number(after)?;
-        found[i] = k;
-        next = rest;
+impl<'a> Parser<'a> {
+    /// Line 1, `(grid d)`, by its numeral.
+    pub(crate) fn grid_line(&mut self) -> Result<i32, FormFault>
+        ensures { OnOk result (Onward self.old.at self.new.at) }
+    {
+        self.open(b"grid")?;
+        let dimensions = self.number()?;
+        self.close()?;
+        Ok(dimensions)
     }
-    Ok((found, next))
-}
 
-/// A point line after its first word.
-fn point_rest<'a>(at: Cursor<'a>, dimensions: usize) -> Result<(PointLine, Cursor<'a>), FormFault>
-    requires reach { reach at < 2 ^ 64 }
-    requires few { dimensions ≤ 4 }
-    ensures { IfOk result (λ n. Onward at.entry n.1) }
-{
-    let at = mark(at, ' ')?;
-    let at = mark(at, '(')?;
-    let (coordinates, at) = coordinates(at, dimensions)?;
-    let at = mark(at, ')')?;
-    let at = mark(at, ' ')?;
-    let (sample, at) = number(at)?;
-    let line = PointLine {
-        coordinates,
-        sample,
-    };
-    Ok((line, close(at)?))
-}
+    /// Line 2, `(unit word)`, by its word.
+    pub(crate) fn unit_line(&mut self) -> Result<&'a [u8], FormFault>
+        ensures { OnOk result (Onward self.old.at self.new.at) }
+    {
+        self.open(b"unit")?;
+        let unit = self.word()?;
+        self.close()?;
+        Ok(unit)
+    }
 
-/// A line after the second: a point line, or none for the end line.
-pub(crate) fn body_line<'a>(
-    at: Cursor<'a>,
-    dimensions: usize,
-) -> Result<(Option<PointLine>, Cursor<'a>), FormFault>
-    requires reach { reach at < 2 ^ 64 }
-    requires few { dimensions ≤ 4 }
-    ensures { IfOk result (λ n. Onward at.entry n.1) }
-{
-    let open = mark(at, '(')?;
-    match keyword(open, b"end") {
-        Ok(named) => Ok((None, close(named)?)),
-        Err(_) => {
-            let named = keyword(open, b"point")?;
-            let (line, next) = point_rest(named, dimensions)?;
-            Ok((Some(line), next))
+    /// A line after the second: a point line, or none for the end line.
+    pub(crate) fn body_line(&mut self, dims: Dims) -> Result<Option<PointLine>, FormFault>
+        ensures { OnOk result (Onward self.old.at self.new.at) }
+    {
+        self.mark(Token::Open)?;
+        let place = self.at.place;
+        match self.word()? {
+            b"end" => {
+                self.close()?;
+                Ok(None)
+            }
+            b"point" => Ok(Some(self.point_rest(dims)?)),
+            _ => Err(FormFault::OtherToken(place)),
         }
+    }
+
+    /// A point line after its first word.
+    fn point_rest(&mut self, dims: Dims) -> Result<PointLine, FormFault>
+        ensures { OnOk result (Onward self.old.at self.new.at) }
+    {
+        self.mark(Token::Space)?;
+        self.mark(Token::Open)?;
+        let coordinates = self.coordinates(dims)?;
+        self.mark(Token::Close)?;
+        self.mark(Token::Space)?;
+        let sample = self.number()?;
+        self.close()?;
+        Ok(PointLine {
+            coordinates,
+            sample,
+        })
+    }
+
+    /// As many coordinates as there are dimensions, parted by spaces.
+    fn coordinates(&mut self, dims: Dims) -> Result<[i32; 4], FormFault>
+        ensures { OnOk result (Onward self.old.at self.new.at) }
+    {
+        let mut found = [0; 4];
+        found[0] = self.number()?;
+        for coordinate in &mut found[1..usize::from(dims.count())] {
+            self.mark(Token::Space)?;
+            *coordinate = self.number()?;
+        }
+        Ok(found)
+    }
+
+    /// The front of a line of two items: a bracket, a word and a space.
+    fn open(&mut self, name: &[u8]) -> Result<(), FormFault>
+        ensures { OnOk result (Onward self.old.at self.new.at) }
+    {
+        self.mark(Token::Open)?;
+        self.keyword(name)?;
+        self.mark(Token::Space)
+    }
+
+    /// The end of each line: a bracket and the line end.
+    fn close(&mut self) -> Result<(), FormFault>
+        ensures { OnOk result (Onward self.old.at self.new.at) }
+    {
+        self.mark(Token::Close)?;
+        self.mark(Token::LineEnd)
     }
 }

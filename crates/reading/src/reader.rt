@@ -1,11 +1,8 @@
 // Reading a text into a grid.
-ghost use Rattle.std.specs.Prelude.{◌^◌, ◌<◌};
-ghost use Rattle.reading.specs.Cursor.{reach};
-
-use crate::cursor::Cursor;
 use crate::fault::FileFault;
+use crate::form::Parser;
 use crate::layer::{Layer, ReadRefusal, refused};
-use crate::line::{PointLine, body_line, grid_line, unit_line};
+use crate::line::PointLine;
 use grid::grid::Grid;
 use kinds::kind::Kind;
 use points::point::number_of;
@@ -13,14 +10,9 @@ use points::refusal::Refusal;
 
 /// Line 1 alone, by the number of dimensions that it names.
 pub fn dimensions(text: &[u8]) -> Result<i32, ReadRefusal> {
-    let start = Cursor {
-        rest: text,
-        place: 0,
-    };
-    match grid_line(start) {
-        Ok((dimensions, _)) => Ok(dimensions),
-        Err(fault) => Err(refused(text, FileFault::Broken(fault))),
-    }
+    Parser::new(text)
+        .grid_line()
+        .map_err(|fault| refused(text, FileFault::from(fault)))
 }
 
 /// Reads a text into a grid that holds nothing, and tells how many points it put in. A text that is refused leaves the
@@ -34,69 +26,47 @@ pub fn read<K: Kind>(text: &[u8], grid: &mut Grid<'_, '_, K>) -> Result<usize, R
             layer: Layer::Grid,
         });
     }
-    match read_lines(text, grid) {
-        Ok(()) => Ok(grid.count()),
-        Err(fault) => {
-            grid.clear();
-            Err(refused(text, fault))
-        }
+    if let Err(fault) = read_lines(text, grid) {
+        grid.clear();
+        return Err(refused(text, fault));
     }
+    Ok(grid.count())
 }
 
+/// All lines of a text; nothing comes after the end line.
 fn read_lines<K: Kind>(text: &[u8], grid: &mut Grid<'_, '_, K>) -> Result<(), FileFault> {
-    let start = Cursor {
-        rest: text,
-        place: 0,
-    };
-    let (dimensions, next) = grid_line(start)?;
-    if dimensions != i32::from(grid.dims().count()) {
+    let mut parser = Parser::new(text);
+    if parser.grid_line()? != i32::from(grid.dims().count()) {
         return Err(FileFault::Refused(Refusal::OtherDimensions, 0));
     }
-    let (_, body) = unit_line(next)?;
-    read_body(body, grid)
+    parser.unit_line()?;
+    read_points(&mut parser, grid)?;
+    if !parser.at.rest.is_empty() {
+        return Err(FileFault::GoesOn(parser.at.place));
+    }
+    Ok(())
 }
 
 /// The lines after the second, up to the end line.
-fn read_body<K: Kind>(body: Cursor<'_>, grid: &mut Grid<'_, '_, K>) -> Result<(), FileFault>
-    requires { reach body < 2 ^ 64 }
-{
-    let dimensions = usize::from(grid.dims().count());
-    let mut at = body;
+fn read_points<K: Kind>(
+    parser: &mut Parser<'_>,
+    grid: &mut Grid<'_, '_, K>,
+) -> Result<(), FileFault> {
+    let dims = grid.dims();
     loop {
-        let (line, next) = body_line(at, dimensions)?;
-        let Some(point) = line else {
-            return end(next);
+        let place = parser.at.place;
+        let Some(line) = parser.body_line(dims)? else {
+            return Ok(());
         };
-        if let Err(refusal) = put_point(point, grid) {
-            return Err(FileFault::Refused(refusal, at.place));
-        }
-        at = next;
+        put_point(line, grid).map_err(|refusal| FileFault::Refused(refusal, place))?;
     }
 }
 
-/// Nothing comes after the end line.
-fn end(next: Cursor<'_>) -> Result<(), FileFault> {
-    if next.rest.is_empty() {
-        Ok(())
-    } else {
-        Err(FileFault::GoesOn(next.place))
-    }
-}
-
+/// Puts in the point of a line. A coordinate that does not fit a byte is none of a point.
 fn put_point<K: Kind>(line: PointLine, grid: &mut Grid<'_, '_, K>) -> Result<(), Refusal> {
-    match point_number(line.coordinates) {
-        Some(point) => grid.put(point, line.sample),
-        None => Err(Refusal::Coordinate),
-    }
-}
-
-/// The number of a point, or nothing where a coordinate does not fit a byte.
-fn point_number(coordinates: [i32; 4]) -> Option<u32> {
-    let [a, b, c, d] = coordinates;
-    Some(number_of([
-        u8::try_from(a).ok()?,
-        u8::try_from(b).ok()?,
-        u8::try_from(c).ok()?,
-        u8::try_from(d).ok()?,
-    ]))
+    let coordinates = line
+        .coordinates
+        .try_map(u8::try_from)
+        .map_err(|_| Refusal::Coordinate)?;
+    grid.put(number_of(coordinates), line.sample)
 }

@@ -50,7 +50,7 @@ impl fmt::Display for Report {
                 let number = refused.refusal.number();
                 let line = refused.line;
                 let byte = refused.byte;
-                let layer = refused.layer.letter();
+                let layer = char::from(refused.layer);
                 writeln!(f, "(refused {number} {line} {byte} {layer})")
             }
         }

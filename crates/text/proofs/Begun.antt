@@ -1,7 +1,8 @@
 -- The token that begins with a byte, and the rules that it keeps.
-use Rattle.std.proofs.Common.{◌≡◌, ℕ, ◌≤◌, Bool, true, false, cond, ◌&&◌, eqb, ltb, List, ◌∷◌, length, Some, None, Option, refl, ap, ◌∙◌, subst, arith}
-use Rattle.std.proofs.lemmas.Bool.{cond-false, le-ltb, ltb-false, ne_eqb, eqb-false}
+use Rattle.std.proofs.Common.{◌≡◌, ℕ, ◌<◌, ◌≤◌, Bool, true, false, cond, ◌&&◌, eqb, ltb, List, ◌∷◌, length, Some, None, Option, refl, ap, ◌∙◌, subst, arith}
+use Rattle.std.proofs.lemmas.Bool.{cond-true, cond-false, le-ltb, lt-ltb, ltb-false, ne_eqb, eqb-false}
 use Rattle.text.specs.declared.token.TokenRule.{TokenRule}
+use Rattle.text.specs.declared.token.TokenRule.TheVariants.{LongWord}
 use Rattle.text.specs.Token.{Tok, mark, word, numeral, is_mark, is_letter, is_digit, begins_numeral, longest_run, has_minus, digits_of, zero_first, word_fault, numeral_fault, token_fault, unless, got, begun, judged}
 
 -- a token is got just where it begins and breaks no rule
@@ -43,6 +44,9 @@ unbroken false r o e = (refl, e)
 -- a word of at most 16 letters keeps its rule, and no other does
 pub word_kept : (w : List ℕ) → word_fault w ≡ None → length w ≤ 16
 word_kept w e = ltb-false 16 (length w) (unbroken (ltb 16 (length w)) _ _ e).0
+
+pub word_breaks : (w : List ℕ) → 16 < length w → word_fault w ≡ Some LongWord
+word_breaks w h = cond-true (ltb 16 (length w)) _ _ (lt-ltb 16 (length w) h)
 
 pub word_keeps : (w : List ℕ) → length w ≤ 16 → word_fault w ≡ None
 word_keeps w h = cond-false (ltb 16 (length w)) _ _ (le-ltb 16 (length w) h)

@@ -2,10 +2,11 @@
 use Rattle.std.proofs.Common.{◌≡◌, ℕ, ◌+◌, ◌-◌, ◌*◌, ◌^◌, ◌<◌, ◌≤◌, true, List, [], ◌∷◌, ◌++◌, length, get_or, take, sym, ap, ◌∙◌, mul_assoc, pow-suc, add-one, arith, lit<}
 use native.Mathlib.Nat.{pow-le-pow_right}
 use Rattle.std.proofs.lemmas.List.{take_more, length_push}
+use Rattle.std.proofs.lemmas.List.Sums.{AllPass-from_list_all}
+use Rattle.std.specs.List.{list_all}
 use Rattle.std.proofs.lemmas.Bool.{and_parts, leb-true}
-use Rattle.text.specs.Token.{is_digit, every}
+use Rattle.text.specs.Token.{is_digit}
 use Rattle.text.specs.Number.{decimal}
-use Rattle.text.proofs.Runs.{every_at}
 
 -- one power of ten more
 ten_more : (i : ℕ) → 10 ^ (i + 1) ≡ 10 ^ i * 10
@@ -23,9 +24,9 @@ decimal_push (x ∷ ds) d =
     let weight : (x - 48) * 10 ^ length (ds ++ (d ∷ [])) ≡ (x - 48) * 10 ^ length ds * 10 = ap (λ p. (x - 48) * p) power ∙ sym (mul_assoc (x - 48) (10 ^ length ds) 10) in
     omega (arith, weight, decimal_push ds d)
 
-module _ (ds : List ℕ) (all : every is_digit ds ≡ true) (i : ℕ) (inside : i < length ds) where
+module _ (ds : List ℕ) (all : list_all is_digit ds ≡ true) (i : ℕ) (inside : i < length ds) where
   pub digit_at : (48 ≤ get_or ds i 0) × (get_or ds i 0 ≤ 57)
-  digit_at = let h = and_parts _ _ (every_at is_digit ds i all inside) in (leb-true 48 (get_or ds i 0) h.0, leb-true (get_or ds i 0) 57 h.1)
+  digit_at = let h = and_parts _ _ (AllPass-from_list_all is_digit ds all i 0 inside) in (leb-true 48 (get_or ds i 0) h.0, leb-true (get_or ds i 0) 57 h.1)
 
   pub decimal_more : (v x : ℕ) → x ≡ get_or ds i 0 - 48 → (v ≡ decimal (take i ds)) × (v < 10 ^ i) → (v * 10 + x ≡ decimal (take (i + 1) ds)) × (v * 10 + x < 10 ^ (i + 1))
   decimal_more v x digit sofar =

@@ -1,12 +1,9 @@
 -- The token at the front of a text, by what the code finds there.
-use Rattle.std.proofs.Common.{◌≡◌, ℕ, ◌+◌, ◌-◌, ◌<◌, true, false, List, [], ◌∷◌, ◌++◌, length, get_or, take, drop, sym, ap, ◌∙◌, one-add, arith}
-use Rattle.std.proofs.lemmas.List.{take_rest}
+use Rattle.std.proofs.Common.{◌≡◌, ℕ, ◌+◌, ◌<◌, true, false, List, [], ◌∷◌, length, get_or, take, drop, sym, ap, ◌∙◌, one-add, arith}
 use Rattle.std.proofs.lemmas.Bool.{cond-true, cond-false}
 use Rattle.std.proofs.lemmas.Bool.Decides.{nat_tests}
-use Rattle.text.specs.declared.token.Token.{Token}
-use Rattle.text.specs.Token.{mark, word, numeral, bytes, is_mark, is_letter, is_digit, begins_numeral, longest_run, got, judged, front, unless, word_fault, numeral_fault}
-use Rattle.text.specs.Taken.{view, Placed, Took}
-use Rattle.text.proofs.Runs.{count, run_take}
+use Rattle.text.specs.Token.{word, numeral, is_mark, is_letter, is_digit, begins_numeral, longest_run, judged, front, unless, word_fault, numeral_fault}
+use Rattle.text.proofs.Runs.{count, run_take, run_on}
 
 -- the first bytes of marks, words and numerals are apart
 pub letter_no_mark : (b : ℕ) → is_letter b ≡ true → is_mark b ≡ false
@@ -18,24 +15,11 @@ numeral_no_mark b e = grind (arith, nat_tests)
 pub numeral_no_letter : (b : ℕ) → begins_numeral b ≡ true → is_letter b ≡ false
 numeral_no_letter b e = grind (arith, nat_tests)
 
--- a mark stands alone
-pub took_mark : (bs : List ℕ) (at : ℕ) (t : Token) (b : ℕ) → view t ≡ mark b → Placed t at → is_mark b ≡ true → get_or bs 0 0 ≡ b → Took bs at t (take (length bs - 1) (drop 1 bs))
-took_mark [] at t b v p m e = let f : false ≡ true = ap is_mark e ∙ m in let z : ◌≡◌ {A = ℕ} 0 1 = cc in absurd (omega arith)
-took_mark (d ∷ bs) at t b v p m e =
-    let same : mark d ≡ view t = ap mark e ∙ sym v in
-    let rest = take_rest (d ∷ bs) 1 in
-    record {
-      found = ap judged (cond-true (is_mark d) _ _ (ap is_mark e ∙ m)) ∙ ap got same;
-      split = ap (λ l. d ∷ l) (sym rest) ∙ ap (λ x. bytes x ++ take (length (d ∷ bs) - 1) (drop 1 (d ∷ bs))) same;
-      left = rest ∙ ap (λ x. drop (length (bytes x)) (d ∷ bs)) same;
-      placed = p;
-    }
-
 -- a letter begins the word that is the longest run of letters
 pub word_front : (bs : List ℕ) → 0 < length bs → is_letter (get_or bs 0 0) ≡ true → let w : List ℕ = longest_run is_letter bs in front bs ≡ unless (word_fault w) (word w)
 word_front [] h e = absurd (omega arith)
 word_front (b ∷ bs) h e =
-    ap judged (cond-false (is_mark b) _ _ (letter_no_mark b e) ∙ cond-true (is_letter b) _ _ e) ∙ ap (λ w. unless (word_fault w) (word w)) (sym (cond-true (is_letter b) (b ∷ longest_run is_letter bs) [] e))
+    ap judged (cond-false (is_mark b) _ _ (letter_no_mark b e) ∙ cond-true (is_letter b) _ _ e) ∙ ap (λ w. unless (word_fault w) (word w)) (sym (run_on is_letter b bs e))
 
 -- a minus or a digit begins the numeral that goes on with the longest run of digits
 pub numeral_front : (bs : List ℕ) → 0 < length bs → begins_numeral (get_or bs 0 0) ≡ true → let n : List ℕ = take (1 + count is_digit (drop 1 bs)) bs in front bs ≡ unless (numeral_fault n) (numeral n)

@@ -1,7 +1,7 @@
--- The lemmas on runs, numerals and fronts of a text.
+-- The lemmas on runs, fronts and numbers of a text, and on cursors.
 pub mod Runs
-pub mod Numerals
 pub mod Fronts
 pub mod Decimals
 pub mod Begun
 pub mod Longest
+pub mod Cursors

@@ -1,8 +1,9 @@
 -- The tokens at the front of a text are the longest runs.
 use Rattle.std.proofs.Common.{◌≡◌, ℕ, suc, ◌≤◌, Bool, true, false, cond, not, ◌&&◌, eqb, ltb, ◌⊎◌, List, [], ◌∷◌, ◌++◌, length, get_or, drop, is_some, Some, sym, refl, ap, ◌∙◌, subst, inl, inr, ⊎_elim, arith}
+use Rattle.std.specs.List.{list_all}
 use Rattle.std.proofs.lemmas.Bool.{and_parts, and_from, and_left, and_right, or_right, cond-true, cond-false, both_ways, cases_eq, eq-eqb, ne_eqb, eqb-true, le-ltb, lt-ltb}
 use Rattle.std.proofs.lemmas.Bool.Decides.{nat_tests}
-use Rattle.text.specs.Token.{mark, word, numeral, is_mark, is_letter, is_digit, is_minus, begins_numeral, longest_run, every, digits_of, is_numeral, got, begun, front}
+use Rattle.text.specs.Token.{mark, word, numeral, is_mark, is_letter, is_digit, is_minus, begins_numeral, longest_run, digits_of, is_numeral, got, begun, front}
 use Rattle.text.specs.Longest.{Ends, MarkFirst, WordFirst, NumeralFirst, LongestRuns}
 use Rattle.text.proofs.Runs.{count, Parts, run_parts, run_whole}
 use Rattle.text.proofs.Fronts.{letter_no_mark, numeral_no_mark, numeral_no_letter}
@@ -29,7 +30,7 @@ words_found (b ∷ bs) w e =
       rest,
       record {
         split = ap (λ l. b ∷ l) run.split ∙ ap (λ l. l ++ rest) (sym first.1);
-        letters = ap (every is_letter) first.1 ∙ and_from _ _ first.0 run.all;
+        letters = ap (list_all is_letter) first.1 ∙ and_from _ _ first.0 run.all;
         some = omega (arith, ap length first.1);
         few = word_kept w g.1;
         ends = run.ends;
@@ -101,14 +102,14 @@ numeral_lawful [] n e = let z : ◌≡◌ {A = ℕ} 0 1 = cc in absurd (omega ar
 numeral_lawful (b ∷ bs) n e =
     let g = got_begun (begun b bs) (numeral n) e in
     let first = begun_by b bs (numeral n) g.0 in
-    and_from _ _ (ap (λ x. every is_digit (digits_of x)) first.1 ∙ go (is_minus b) refl first.0) (ap (λ f. not (is_some f)) g.1)
+    and_from _ _ (ap (λ x. list_all is_digit (digits_of x)) first.1 ∙ go (is_minus b) refl first.0) (ap (λ f. not (is_some f)) g.1)
   where
-    go : (v : Bool) → is_minus b ≡ v → begins_numeral b ≡ true → every is_digit (cond v (longest_run is_digit bs) (b ∷ longest_run is_digit bs)) ≡ true
+    go : (v : Bool) → is_minus b ≡ v → begins_numeral b ≡ true → list_all is_digit (cond v (longest_run is_digit bs) (b ∷ longest_run is_digit bs)) ≡ true
     go true m h = (run_parts is_digit bs).all
     go false m h = and_from _ _ (plain_digit b h m) (run_parts is_digit bs).all
 
 -- a minus or a digit, and digits that keep the rules
-numeral_got : (b : ℕ) (ds rest : List ℕ) → begins_numeral b ≡ true → every is_digit ds ≡ true → Ends is_digit rest → Kept (b ∷ ds) (digits_of (b ∷ ds)) → front ((b ∷ ds) ++ rest) ≡ got (numeral (b ∷ ds))
+numeral_got : (b : ℕ) (ds rest : List ℕ) → begins_numeral b ≡ true → list_all is_digit ds ≡ true → Ends is_digit rest → Kept (b ∷ ds) (digits_of (b ∷ ds)) → front ((b ∷ ds) ++ rest) ≡ got (numeral (b ∷ ds))
 numeral_got b ds rest begins all ends kept =
     begun_got (begun b (ds ++ rest)) (numeral (b ∷ ds))
     (cond-false (is_mark b) _ _ (numeral_no_mark b begins) ∙ cond-false (is_letter b) _ _ (numeral_no_letter b begins) ∙ cond-true (begins_numeral b) _ _ begins ∙ ap (λ x. Some (numeral (b ∷ x))) (run_whole is_digit ds rest all ends))
@@ -132,7 +133,7 @@ minus_kept d ds few no_zero =
     record { some = omega arith; no_minus_zero = z; no_leading_zero = and_left _ _ z; few = few }
 
 -- a text of a sign, digits and a rest
-signed_first : (sign digits rest : List ℕ) → (sign ≡ []) ⊎ (sign ≡ 45 ∷ []) → every is_digit digits ≡ true → 1 ≤ length digits → length digits ≤ 6 → (get_or digits 0 0 ≡ 48 → sign ++ digits ≡ 48 ∷ []) → Ends is_digit rest → front ((sign ++ digits) ++ rest) ≡ got (numeral (sign ++ digits))
+signed_first : (sign digits rest : List ℕ) → (sign ≡ []) ⊎ (sign ≡ 45 ∷ []) → list_all is_digit digits ≡ true → 1 ≤ length digits → length digits ≤ 6 → (get_or digits 0 0 ≡ 48 → sign ++ digits ≡ 48 ∷ []) → Ends is_digit rest → front ((sign ++ digits) ++ rest) ≡ got (numeral (sign ++ digits))
 signed_first sign [] rest s all some few no_zero ends = absurd (omega arith)
 signed_first sign (d ∷ ds) rest (inl s) all some few no_zero ends =
     let h = and_parts _ _ all in

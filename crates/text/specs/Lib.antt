@@ -1,6 +1,6 @@
 -- The definitions of tokens, numbers and what the lexer answers.
 pub mod Token
-pub mod Class
+pub mod Cursor
 pub mod Taken
 pub mod Number
 pub mod Longest

@@ -1,6 +1,7 @@
 -- Which texts begin with a token, said without the steps that find it.
 use Rattle.std.specs.Prelude.{◌≡◌, ℕ, ◌≤◌, Bool, true, false, ◌⊎◌, List, [], ◌∷◌, ◌++◌, length, slice_index_or}
-use Rattle.text.specs.Token.{mark, word, numeral, is_mark, is_letter, is_digit, every, got, front}
+use Rattle.std.specs.List.{list_all}
+use Rattle.text.specs.Token.{mark, word, numeral, is_mark, is_letter, is_digit, got, front}
 
 -- no byte of a class comes first
 abbrev pub Ends : (ℕ → Bool) → List ℕ → Type 0
@@ -15,7 +16,7 @@ pub record MarkFirst (text : List ℕ) (b : ℕ) (rest : List ℕ) : Type 0 wher
 -- a text is w, 1 to most letters, and then rest, which does not begin with a letter
 pub record WordFirst (most : ℕ) (text w rest : List ℕ) : Type 0 where
   pub split : text ≡ w ++ rest
-  pub letters : every is_letter w ≡ true
+  pub letters : list_all is_letter w ≡ true
   pub some : 1 ≤ length w
   pub few : length w ≤ most
   pub ends : Ends is_letter rest
@@ -28,7 +29,7 @@ pub record NumeralFirst (most : ℕ) (text n rest : List ℕ) : Type 0 where
   pub digits : List ℕ
   pub parts : n ≡ sign ++ digits
   pub minus : (sign ≡ []) ⊎ (sign ≡ 45 ∷ [])
-  pub decimals : every is_digit digits ≡ true
+  pub decimals : list_all is_digit digits ≡ true
   pub some : 1 ≤ length digits
   pub few : length digits ≤ most
   pub no_zero : slice_index_or digits 0 0 ≡ 48 → n ≡ 48 ∷ []

@@ -1,5 +1,6 @@
 -- The tokens of a text, their rules, and which token stands at its front.
-use Rattle.std.specs.Prelude.{ℕ, Bool, true, false, cond, not, ◌&&◌, ◌||◌, List, [], ◌∷◌, length, is_some, Some, None, Option, ◌==◌, nat_le, nat_lt, slice_index}
+use Rattle.std.specs.Prelude.{ℕ, Bool, false, cond, not, ◌&&◌, ◌||◌, List, [], ◌∷◌, length, is_some, Some, None, Option, ◌==◌, nat_le, nat_lt, slice_index, take_while}
+use Rattle.std.specs.List.{list_all}
 use Rattle.text.specs.declared.token.TokenRule.{TokenRule}
 use Rattle.text.specs.declared.token.TokenRule.TheVariants.{TextEnded, NoToken, LongWord, BareMinus, MinusZero, LeadingZero, LongNumeral}
 
@@ -37,13 +38,7 @@ begins_numeral b = is_minus b || is_digit b
 
 -- the longest run of a class of bytes at the front of a text
 abbrev pub longest_run : (ℕ → Bool) → List ℕ → List ℕ
-longest_run class [] = []
-longest_run class (b ∷ bs) = cond (class b) (b ∷ longest_run class bs) []
-
--- every byte is of a class
-abbrev pub every : (ℕ → Bool) → List ℕ → Bool
-every class [] = true
-every class (b ∷ bs) = class b && every class bs
+longest_run class bs = take_while class bs
 
 -- a numeral that begins with a minus
 abbrev pub has_minus : List ℕ → Bool
@@ -63,18 +58,26 @@ zero_first ds = slice_index ds 0 == 48
 abbrev pub word_fault : List ℕ → Option TokenRule
 word_fault w = cond (nat_lt 16 (length w)) (Some LongWord) None
 
--- the first rule that an optional minus and a run of digits break, if any: there are digits, no digit 0 follows a minus,
+-- the first rule that a sign and a run of digits break, if any: there are digits, no digit 0 follows a minus,
 -- no digit follows a first 0, and there are at most 6 digits
+abbrev pub rule_broken : Bool → List ℕ → Option TokenRule
+rule_broken minus ds =
+    cond (length ds == 0) (Some BareMinus)
+    (cond (minus && zero_first ds) (Some MinusZero)
+    (cond (zero_first ds && nat_lt 1 (length ds)) (Some LeadingZero)
+    (cond (nat_lt 6 (length ds)) (Some LongNumeral) None)))
+
+-- the first rule that an optional minus and a run of digits break, if any
 abbrev pub numeral_fault : List ℕ → Option TokenRule
-numeral_fault n =
-    cond (length (digits_of n) == 0) (Some BareMinus)
-    (cond (has_minus n && zero_first (digits_of n)) (Some MinusZero)
-    (cond (zero_first (digits_of n) && nat_lt 1 (length (digits_of n))) (Some LeadingZero)
-    (cond (nat_lt 6 (length (digits_of n))) (Some LongNumeral) None)))
+numeral_fault n = rule_broken (has_minus n) (digits_of n)
+
+-- a sign and digits that break no rule
+abbrev pub keeps_rules : Bool → List ℕ → Bool
+keeps_rules minus ds = list_all is_digit ds && not (is_some (rule_broken minus ds))
 
 -- an optional minus and digits that break no rule
 abbrev pub is_numeral : List ℕ → Bool
-is_numeral n = every is_digit (digits_of n) && not (is_some (numeral_fault n))
+is_numeral n = keeps_rules (has_minus n) (digits_of n)
 
 -- what stands at the front of a text: a rule is broken there, or there is a token
 pub data Front : Type 0 where

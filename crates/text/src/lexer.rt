@@ -1,66 +1,96 @@
-// The token at the front of a text.
-ghost use Rattle.std.specs.Prelude.{◌≡◌, ◌<◌, true, length, slice_index};
-ghost use Rattle.text.specs.Token.{is_letter, begins_numeral};
+// A cursor over a text, which takes one token after the other.
+ghost use Rattle.std.specs.Prelude.{◌+◌, ◌^◌, ◌<◌, length};
 ghost use Rattle.text.specs.Longest.{LongestRuns};
-ghost use Rattle.text.specs.Taken.{Next};
 
-use crate::numeral::broken_rule;
-use crate::run::{Class, run_length};
+use crate::numeral::Numeral;
 use crate::token::{Token, TokenFault, TokenRule};
 
 /// The most letters of a word.
 const MOST_LETTERS: usize = 16;
 
-/// Takes the token at the front of the remaining text, which begins at the byte place `place`, and leaves the rest.
-pub fn next_token<'a>(text: &'a [u8], place: usize) -> Result<(Token<'a>, &'a [u8]), TokenFault>
-    ensures { Next text.now place result }
-{
-    let [first, rest @ ..] = text else {
-        return Err(TokenFault {
-            place,
-            rule: TokenRule::TextEnded,
-        });
-    };
-    match char::from(*first) {
-        '(' => Ok((Token::Open, rest)),
-        ')' => Ok((Token::Close, rest)),
-        ' ' => Ok((Token::Space, rest)),
-        '\n' => Ok((Token::LineEnd, rest)),
-        'a'..='z' => next_word(text, place),
-        '-' | '0'..='9' => next_numeral(text, place),
-        _ => Err(TokenFault {
-            place,
-            rule: TokenRule::NoToken,
-        }),
-    }
+/// What is left of a text, and the byte place where it begins.
+#[derive(Clone, Copy)]
+pub struct Cursor<'a> {
+    pub rest: &'a [u8],
+    pub place: usize,
+    pub ghost in_range: { place + length rest.now < 2 ^ 64 },
 }
 
-/// Takes the word that begins with the first byte, a letter.
-fn next_word<'a>(text: &'a [u8], place: usize) -> Result<(Token<'a>, &'a [u8]), TokenFault>
-    requires { (0 < length text.now) × (is_letter (slice_index text.now 0) ≡ true) }
-    ensures { Next text.now place result }
-{
-    let n = run_length(text, Class::Letter);
-    if n > MOST_LETTERS {
-        return Err(TokenFault {
-            place,
-            rule: TokenRule::LongWord,
-        });
-    }
-    let (word, rest) = text.split_at(n);
-    Ok((Token::Word(word, place), rest))
-}
+impl<'a> Cursor<'a> {
+    ghost use Rattle.std.specs.Prelude.{◌≡◌, ◌<◌, IsTrue, OnOk, length, slice_index};
+    ghost use Rattle.text.specs.Cursor.{Onward};
+    ghost use Rattle.text.specs.Token.{is_letter, begins_numeral};
+    ghost use Rattle.text.specs.Taken.{Found, Next};
 
-/// Takes the numeral that begins with the first byte, a minus or a digit.
-fn next_numeral<'a>(text: &'a [u8], place: usize) -> Result<(Token<'a>, &'a [u8]), TokenFault>
-    requires { (0 < length text.now) × (begins_numeral (slice_index text.now 0) ≡ true) }
-    ensures { Next text.now place result }
-{
-    let n = 1 + run_length(&text[1..], Class::Digit);
-    let (numeral, rest) = text.split_at(n);
-    match broken_rule(numeral) {
-        Some(rule) => Err(TokenFault { place, rule }),
-        None => Ok((Token::Numeral(numeral, place), rest)),
+    /// The whole of a text.
+    pub fn new(text: &'a [u8]) -> Cursor<'a>
+        ensures whole { result.rest.now ≡ text.now }
+        ensures start { result.place ≡ 0 }
+    {
+        Cursor {
+            rest: text,
+            place: 0,
+        }
+    }
+
+    /// Takes the token at the front and leaves the rest; where there is none, everything is left.
+    pub fn next_token(&mut self) -> Result<Token<'a>, TokenFault>
+        ensures next { Next self.old result self.new }
+        ensures onward { OnOk result (Onward self.old self.new) }
+    {
+        let place = self.place;
+        let (token, rest) = self.front().map_err(|rule| TokenFault { place, rule })?;
+        self.place += self.rest.len() - rest.len();
+        self.rest = rest;
+        Ok(token)
+    }
+
+    /// The token at the front and what follows it, or the rule that is broken there.
+    fn front(&self) -> Result<(Token<'a>, &'a [u8]), TokenRule>
+        ensures { Found self.now.rest.now self.now.place result }
+    {
+        let [first, rest @ ..] = self.rest else {
+            return Err(TokenRule::TextEnded);
+        };
+        match char::from(*first) {
+            '(' => Ok((Token::Open, rest)),
+            ')' => Ok((Token::Close, rest)),
+            ' ' => Ok((Token::Space, rest)),
+            '\n' => Ok((Token::LineEnd, rest)),
+            'a'..='z' => self.word(),
+            '-' | '0'..='9' => self.numeral(),
+            _ => Err(TokenRule::NoToken),
+        }
+    }
+
+    /// The word that begins with the first byte, a letter.
+    fn word(&self) -> Result<(Token<'a>, &'a [u8]), TokenRule>
+        requires some { 0 < length self.now.rest.now }
+        requires letter { IsTrue (is_letter (slice_index self.now.rest.now 0)) }
+        ensures { Found self.now.rest.now self.now.place result }
+    {
+        let text = self.rest;
+        let n = text.iter().take_while(|b| b.is_ascii_lowercase()).count();
+        if n > MOST_LETTERS {
+            return Err(TokenRule::LongWord);
+        }
+        let (word, rest) = text.split_at(n);
+        Ok((Token::Word(word, self.place), rest))
+    }
+
+    /// The numeral that begins with the first byte, a minus or a digit.
+    fn numeral(&self) -> Result<(Token<'a>, &'a [u8]), TokenRule>
+        requires some { 0 < length self.now.rest.now }
+        requires begins { IsTrue (begins_numeral (slice_index self.now.rest.now 0)) }
+        ensures { Found self.now.rest.now self.now.place result }
+    {
+        let text = self.rest;
+        let n = 1 + text[1..].iter().take_while(|b| b.is_ascii_digit()).count();
+        let (numeral, rest) = text.split_at(n);
+        match Numeral::new(numeral).broken_rule() {
+            Some(rule) => Err(rule),
+            None => Ok((Token::Numeral(numeral, self.place), rest)),
+        }
     }
 }
 

@@ -4,7 +4,6 @@
 pub mod lexer;
 pub mod number;
 mod numeral;
-mod run;
 #[cfg(test)]
 mod tests;
 pub mod token;

@@ -1,15 +1,16 @@
 // Tokens and numbers of short texts.
-use crate::lexer::next_token;
+use crate::lexer::Cursor;
 use crate::number::numeral_value;
 use crate::token::{Token, TokenFault, TokenRule};
-use std::test::Fail;
 
 /// The fault at the front of a text at byte place 7, if there is one.
 fn fault(text: &[u8]) -> Option<TokenFault> {
-    match next_token(text, 7) {
-        Ok(_) => None,
-        Err(fault) => Some(fault),
+    Cursor {
+        rest: text,
+        place: 7,
     }
+    .next_token()
+    .err()
 }
 
 /// A fault at byte place 7.
@@ -18,40 +19,32 @@ fn breaks(rule: TokenRule) -> Option<TokenFault> {
 }
 
 #[test]
-fn takes_a_mark(rt: HostRuntime) -> Result<(), Fail> {
-    match next_token(b"(", 0) {
-        Ok((Token::Open, rest)) => {
-            assert!(rt; rest.is_empty());
-            Ok(())
-        },
-        _ => Err(Fail::new("a bracket")),
-    }
+fn takes_a_mark(rt: HostRuntime) {
+    let mut cursor = Cursor::new(b"(");
+    assert_eq!(rt; cursor.next_token(), Ok(Token::Open));
+    assert!(rt; cursor.rest.is_empty());
 }
 
 #[test]
-fn takes_a_word(rt: HostRuntime) -> Result<(), Fail> {
-    match next_token(b"grid 1)", 1) {
-        Ok((Token::Word(word, place), rest)) => {
-            assert_eq!(rt; word, b"grid".as_slice());
-            assert_eq!(rt; place, 1);
-            assert_eq!(rt; rest, b" 1)".as_slice());
-            Ok(())
-        }
-        _ => Err(Fail::new("a word")),
-    }
+fn takes_a_word(rt: HostRuntime) {
+    let mut cursor = Cursor {
+        rest: b"grid 1)",
+        place: 1,
+    };
+    assert_eq!(rt; cursor.next_token(), Ok(Token::Word(b"grid", 1)));
+    assert_eq!(rt; cursor.rest, b" 1)".as_slice());
+    assert_eq!(rt; cursor.place, 5);
 }
 
 #[test]
-fn takes_a_numeral(rt: HostRuntime) -> Result<(), Fail> {
-    match next_token(b"-12)", 5) {
-        Ok((Token::Numeral(numeral, place), rest)) => {
-            assert_eq!(rt; numeral, b"-12".as_slice());
-            assert_eq!(rt; place, 5);
-            assert_eq!(rt; rest, b")".as_slice());
-            Ok(())
-        }
-        _ => Err(Fail::new("a numeral")),
-    }
+fn takes_a_numeral(rt: HostRuntime) {
+    let mut cursor = Cursor {
+        rest: b"-12)",
+        place: 5,
+    };
+    assert_eq!(rt; cursor.next_token(), Ok(Token::Numeral(b"-12", 5)));
+    assert_eq!(rt; cursor.rest, b")".as_slice());
+    assert_eq!(rt; cursor.place, 8);
 }
 
 #[test]

@@ -1,7 +1,7 @@
 // The tokens of a grid text, and the faults that a text can have in one.
 
 /// A token. A word and a numeral are parts of the caller's text, with the byte place where they begin.
-#[derive(Clone, Copy)]
+#[derive(Clone, Copy, PartialEq, Eq, Debug)]
 pub enum Token<'a> {
     Open,
     Close,

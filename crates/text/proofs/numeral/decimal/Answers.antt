@@ -3,7 +3,7 @@ use Rattle.std.proofs.Common.{◌^◌, ◌≤◌, ap, ◌∙◌, arith}
 use Rattle.std.proofs.lemmas.List.{take_all}
 use Rattle.text.specs.Number.{decimal}
 use Rattle.text.proofs.Decimals.{digit_at, decimal_more, tens}
-use Rattle.text.proofs.number.decimal_value.Goals as goal
+use Rattle.text.proofs.numeral.decimal.Goals as goal
 
 pub overflow_sub-digit : goal.overflow_sub-digit
 overflow_sub-digit c = (digit_at c.args.digits.now c.requires.digits c.loop-digit.digit-index c.loop-digit-test.true).0

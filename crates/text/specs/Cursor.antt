@@ -1,6 +1,6 @@
 -- How a cursor goes through a text.
 use Rattle.std.specs.Prelude.{◌≡◌, ℕ, ◌+◌, ◌<◌, length}
-use Rattle.reading.specs.declared.cursor.Cursor.{Cursor}
+use Rattle.text.specs.declared.lexer.Cursor.{Cursor}
 
 -- the length of the text that a cursor goes through
 abbrev pub reach : Cursor → ℕ

@@ -1,2 +1,0 @@
--- The lemmas on cursors.
-pub mod Cursors
