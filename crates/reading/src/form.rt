@@ -1,5 +1,5 @@
 // The tokens that the form of a grid text needs, one after the other.
-ghost use Rattle.std.specs.Prelude.{OnOk};
+ghost use Rattle.std.specs.Prelude.{◌≡◌, OnOk};
 ghost use Rattle.text.specs.Cursor.{Onward};
 
 use crate::fault::FormFault;
@@ -15,7 +15,10 @@ pub(crate) struct Parser<'a> {
 
 impl<'a> Parser<'a> {
     /// At the front of a text.
-    pub(crate) fn new(text: &'a [u8]) -> Parser<'a> {
+    pub(crate) fn new(text: &'a [u8]) -> Parser<'a>
+        ensures whole { result.at.rest.now ≡ text.now }
+        ensures start { result.at.place ≡ 0 }
+    {
         Parser {
             at: Cursor::new(text),
         }

@@ -1,8 +1,9 @@
 // The lines of a text.
-ghost use Rattle.std.specs.Prelude.{OnOk};
+ghost use Rattle.std.specs.Prelude.{◌≡◌, [], OnOk, IfErr};
+ghost use Rattle.reading.specs.declared.fault.FileFault.TheVariants.{GoesOn};
 ghost use Rattle.text.specs.Cursor.{Onward};
 
-use crate::fault::FormFault;
+use crate::fault::{FileFault, FormFault};
 use crate::form::Parser;
 use points::dimensions::Dims;
 use text::token::Token;
@@ -88,6 +89,18 @@ impl<'a> Parser<'a> {
         self.mark(Token::Open)?;
         self.keyword(name)?;
         self.mark(Token::Space)
+    }
+
+    /// Nothing comes after the end line.
+    pub(crate) fn end(&self) -> Result<(), FileFault>
+        ensures ok { OnOk result (self.now.at.rest.now ≡ []) }
+        ensures err { IfErr result (λ fault. fault ≡ GoesOn self.now.at.place) }
+    {
+        if self.at.rest.is_empty() {
+            Ok(())
+        } else {
+            Err(FileFault::GoesOn(self.at.place))
+        }
     }
 
     /// The end of each line: a bracket and the line end.

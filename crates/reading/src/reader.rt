@@ -41,10 +41,7 @@ fn read_lines<K: Kind>(text: &[u8], grid: &mut Grid<'_, '_, K>) -> Result<(), Fi
     }
     parser.unit_line()?;
     read_points(&mut parser, grid)?;
-    if !parser.at.rest.is_empty() {
-        return Err(FileFault::GoesOn(parser.at.place));
-    }
-    Ok(())
+    parser.end()
 }
 
 /// The lines after the second, up to the end line.

@@ -1,6 +1,5 @@
 -- The number that digits write, read digit by digit.
-use Rattle.std.proofs.Common.{◌≡◌, ℕ, ◌+◌, ◌-◌, ◌*◌, ◌^◌, ◌<◌, ◌≤◌, true, List, [], ◌∷◌, ◌++◌, length, get_or, take, sym, ap, ◌∙◌, mul_assoc, pow-suc, add-one, arith, lit<}
-use native.Mathlib.Nat.{pow-le-pow_right}
+use Rattle.std.proofs.Common.{◌≡◌, ℕ, ◌+◌, ◌-◌, ◌*◌, ◌^◌, ◌<◌, ◌≤◌, true, List, [], ◌∷◌, ◌++◌, length, get_or, take, sym, ap, ◌∙◌, mul_assoc, pow-suc, add-one, arith}
 use Rattle.std.proofs.lemmas.List.{take_more, length_push}
 use Rattle.std.proofs.lemmas.List.Sums.{AllPass-from_list_all}
 use Rattle.std.specs.List.{list_all}
@@ -11,10 +10,6 @@ use Rattle.text.specs.Number.{decimal}
 -- one power of ten more
 ten_more : (i : ℕ) → 10 ^ (i + 1) ≡ 10 ^ i * 10
 ten_more i = ap (λ k. 10 ^ k) (add-one i) ∙ pow-suc 10 i
-
--- the powers of ten rise
-pub tens : (i j : ℕ) → i ≤ j → 10 ^ i ≤ 10 ^ j
-tens i j h = pow-le-pow_right (lit< tt) h
 
 -- one more digit at the end
 decimal_push : (ds : List ℕ) (d : ℕ) → decimal (ds ++ (d ∷ [])) ≡ decimal ds * 10 + (d - 48)

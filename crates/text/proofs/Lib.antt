@@ -2,6 +2,5 @@
 pub mod Runs
 pub mod Fronts
 pub mod Decimals
-pub mod Begun
 pub mod Longest
 pub mod Cursors

@@ -1,11 +1,11 @@
 -- The numeral that is split off goes on with the longest run of digits.
-use Rattle.std.proofs.Common.{◌≡◌, ◌+◌, ◌-◌, ◌≤◌, length, take, drop, sym, refl, ap, ◌∙◌, arith, length-drop, rules, tests}
+use Rattle.std.proofs.Common.{◌≡◌, ◌+◌, ◌-◌, length, take, drop, sym, refl, ap, ◌∙◌, rules, tests}
 use Rattle.std.proofs.lemmas.List.{take_rest}
 use Rattle.std.proofs.lemmas.Iterator.{YieldsList-from_slice}
 use Rattle.std.proofs.lemmas.Iterator.Consumers.{count_from_yields_List}
 use Rattle.std.proofs.lemmas.Iterator.Search.{YieldsList-from_take_while}
 use Rattle.text.specs.Token.{is_digit, numeral, numeral_fault, unless, front}
-use Rattle.text.proofs.Runs.{count, run_le}
+use Rattle.text.proofs.Runs.{count}
 use Rattle.text.proofs.Fronts.{numeral_front}
 use Rattle.text.proofs.lexer.Cursor.numeral.Goals as goal
 use Rattle.text.proofs.lexer.Cursor.numeral.Goals.{After-count-n, After-broken_rule}
@@ -15,18 +15,6 @@ counted : (c : After-count-n) → c.count-n.result ≡ count is_digit (drop 1 c.
 counted c =
     let text = c.args.self.now.rest.now in
     count_from_yields_List c.take_while.result c.count-n.result c.count-n.ensures.ran (YieldsList-from_take_while _ is_digit (YieldsList-from_slice (take (length text - 1) (drop 1 text)) cc) c.take_while.ensures.closure c.take_while.ensures.done (λ x b q k. search (rules, tests))) ∙ ap (count is_digit) (take_rest text 1)
-
-fits : (c : After-count-n) → 1 + c.count-n.result ≤ length c.args.self.now.rest.now
-fits c =
-    let text = c.args.self.now.rest.now in
-    let some = c.requires.some in
-    omega (arith, counted c, run_le is_digit (drop 1 text), length-drop 1 text)
-
-pub overflow_add-n : goal.overflow_add-n
-overflow_add-n c = omega (arith, fits (goal.at.overflow_add-n c).After-count-n)
-
-pub split_at-requires : goal.split_at-requires
-split_at-requires c = fits (goal.at.split_at-requires c).After-count-n
 
 -- the front of the text, by the answer on the run
 judged_run : (c : After-broken_rule) → c.count-n.result ≡ count is_digit (drop 1 c.args.self.now.rest.now) → front c.args.self.now.rest.now ≡ unless c.broken_rule.result (numeral c.split_at.result.0.now)

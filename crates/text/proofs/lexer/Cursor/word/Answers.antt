@@ -3,10 +3,10 @@ use Rattle.std.proofs.Common.{◌≡◌, take, drop, sym, refl, ap, ◌∙◌, a
 use Rattle.std.proofs.lemmas.Iterator.{YieldsList-from_slice}
 use Rattle.std.proofs.lemmas.Iterator.Consumers.{count_from_yields_List}
 use Rattle.std.proofs.lemmas.Iterator.Search.{YieldsList-from_take_while}
+use Rattle.std.proofs.lemmas.Bool.Decides.{nat_tests}
 use Rattle.text.specs.Token.{is_letter, longest_run, word, word_fault, unless}
-use Rattle.text.proofs.Runs.{count, run_le, run_take}
+use Rattle.text.proofs.Runs.{count, run_take}
 use Rattle.text.proofs.Fronts.{word_front}
-use Rattle.text.proofs.Begun.{word_keeps, word_breaks}
 use Rattle.text.proofs.lexer.Cursor.word.Goals as goal
 use Rattle.text.proofs.lexer.Cursor.word.Goals.{After-count-n}
 
@@ -18,19 +18,17 @@ counted c =
 pub returns-then-n-gt-MOST_LETTERS : goal.returns-then-n-gt-MOST_LETTERS
 returns-then-n-gt-MOST_LETTERS c =
     let n = counted (goal.at.returns-then-n-gt-MOST_LETTERS c).After-count-n in
-    let w = longest_run is_letter c.args.self.now.rest.now in
-    word_front c.args.self.now.rest.now c.requires.some c.requires.letter ∙ ap (λ f. unless f (word w)) (word_breaks w (omega arith))
-
-pub split_at-requires : goal.split_at-requires
-split_at-requires c = omega (arith, counted (goal.at.split_at-requires c).After-count-n, run_le is_letter c.args.self.now.rest.now)
+    let f = word_front c.args.self.now.rest.now c.requires.some c.requires.letter in
+    grind (arith, nat_tests)
 
 pub returns : goal.returns
 returns c =
     let text = c.args.self.now.rest.now in
     let w = c.split_at.result.0.now in
     let run : w ≡ longest_run is_letter text = c.split_at.ensures.front ∙ ap (λ k. take k text) (counted (goal.at.returns c).After-count-n) ∙ run_take is_letter text in
+    let f = word_front text c.requires.some c.requires.letter ∙ ap (λ x. unless (word_fault x) (word x)) (sym run) in
     record {
-      found = word_front text c.requires.some c.requires.letter ∙ ap (λ x. unless (word_fault x) (word x)) (sym run) ∙ ap (λ f. unless f (word w)) (word_keeps w (omega arith));
+      found = grind (arith, nat_tests);
       split = c.split_at.ensures.by_index.0;
       left = c.split_at.ensures.back ∙ ap (λ k. drop k text) (sym c.split_at.ensures.front_len);
       placed = refl;
