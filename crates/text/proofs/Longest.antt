@@ -1,9 +1,9 @@
 -- The tokens at the front of a text are the longest runs.
-use Rattle.std.proofs.Common.{◌≡◌, ℕ, ◌≤◌, Bool, true, false, cond, ◌⊎◌, List, [], ◌∷◌, ◌++◌, length, get_or, drop, None, sym, refl, ap, ◌∙◌, subst, inl, inr, arith}
+use Rattle.std.proofs.Common.{◌≡◌, ℕ, ◌≤◌, Bool, true, false, cond, not, ◌⊎◌, List, [], ◌∷◌, ◌++◌, length, get_or, drop, is_some, None, sym, refl, ap, ◌∙◌, subst, inl, inr, arith}
 use Rattle.std.specs.List.{list_all}
 use Rattle.std.proofs.lemmas.Bool.{and_parts, and_from, or_right, eqb-true}
 use Rattle.std.proofs.lemmas.Bool.Decides.{nat_tests}
-use Rattle.text.specs.Token.{mark, word, numeral, is_letter, is_digit, is_minus, begins_numeral, longest_run, rule_broken, numeral_fault, unless, got, front}
+use Rattle.text.specs.Token.{mark, word, numeral, is_letter, is_digit, is_minus, begins_numeral, longest_run, rule_broken, numeral_fault, unless, got, front, digits_of, is_numeral}
 use Rattle.text.specs.Longest.{Ends, MarkFirst, WordFirst, NumeralFirst, LongestRuns}
 use Rattle.text.proofs.Runs.{count, Parts, run_parts, run_whole}
 use Rattle.text.proofs.Fronts.{mark_begins, mark_got, word_begins, word_got, numeral_begins, numeral_got}
@@ -104,6 +104,17 @@ numerals_found (b ∷ bs) n e =
     let g = numeral_got b bs n e in
     let rest = drop (count is_digit bs) bs in
     (rest, subst (λ x. NumeralFirst 6 (b ∷ bs) x rest) (sym g.1) (numeral_parts b bs (longest_run is_digit bs) rest g.0 (run_parts is_digit bs) (ap numeral_fault (sym g.1) ∙ g.2)))
+
+-- a numeral at the front is one that writes a number
+pub numeral_lawful : (text n : List ℕ) → front text ≡ got (numeral n) → is_numeral n ≡ true
+numeral_lawful [] n e = cc
+numeral_lawful (b ∷ bs) n e =
+    let g = numeral_got b bs n e in
+    and_from _ _ (ap (λ x. list_all is_digit (digits_of x)) g.1 ∙ go (is_minus b) refl g.0) (ap (λ f. not (is_some f)) g.2)
+  where
+    go : (v : Bool) → is_minus b ≡ v → begins_numeral b ≡ true → list_all is_digit (cond v (longest_run is_digit bs) (b ∷ longest_run is_digit bs)) ≡ true
+    go true m h = (run_parts is_digit bs).all
+    go false m h = and_from _ _ (plain_digit b h m) (run_parts is_digit bs).all
 
 -- a minus or a digit, and digits that keep the rules
 numeral_first : (b : ℕ) (ds rest : List ℕ) → begins_numeral b ≡ true → list_all is_digit ds ≡ true → Ends is_digit rest → numeral_fault (b ∷ ds) ≡ None → front ((b ∷ ds) ++ rest) ≡ got (numeral (b ∷ ds))

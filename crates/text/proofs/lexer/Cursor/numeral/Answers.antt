@@ -4,7 +4,7 @@ use Rattle.std.proofs.lemmas.List.{take_rest}
 use Rattle.std.proofs.lemmas.Iterator.{YieldsList-from_slice}
 use Rattle.std.proofs.lemmas.Iterator.Consumers.{count_from_yields_List}
 use Rattle.std.proofs.lemmas.Iterator.Search.{YieldsList-from_take_while}
-use Rattle.text.specs.Token.{is_digit, numeral, numeral_fault, unless, front}
+use Rattle.text.specs.Token.{is_digit, numeral, unless, front}
 use Rattle.text.proofs.Runs.{count}
 use Rattle.text.proofs.Fronts.{numeral_front}
 use Rattle.text.proofs.lexer.Cursor.numeral.Goals as goal
@@ -20,10 +20,9 @@ counted c =
 judged_run : (c : After-broken_rule) → c.count-n.result ≡ count is_digit (drop 1 c.args.self.now.rest.now) → front c.args.self.now.rest.now ≡ unless c.broken_rule.result (numeral c.split_at.result.0.now)
 judged_run c digits =
     let text = c.args.self.now.rest.now in
-    let n = c.split_at.result.0.now in
-    let run : n ≡ take (1 + count is_digit (drop 1 text)) text = c.split_at.ensures.front ∙ ap (λ k. take (1 + k) text) digits in
-    let rule : c.broken_rule.result ≡ numeral_fault n = cc in
-    numeral_front text c.requires.some c.requires.begins ∙ ap (λ x. unless (numeral_fault x) (numeral x)) (sym run) ∙ ap (λ f. unless f (numeral n)) (sym rule)
+    let run : c.split_at.result.0.now ≡ take (1 + count is_digit (drop 1 text)) text = c.split_at.ensures.front ∙ ap (λ k. take (1 + k) text) digits in
+    let first = numeral_front text c.requires.some c.requires.begins in
+    cc
 
 pub returns-in-Some : goal.returns-in-Some
 returns-in-Some c =
