@@ -1,5 +1,5 @@
 -- The word that is split off is the longest run of letters.
-use Rattle.std.proofs.Common.{◌≡◌, take, drop, sym, refl, ap, ◌∙◌, arith, rules, tests}
+use Rattle.std.proofs.Common.{◌≡◌, ◌≤◌, length, take, drop, sym, refl, ap, ◌∙◌, arith, rules, tests}
 use Rattle.std.proofs.lemmas.Iterator.{YieldsList-from_slice}
 use Rattle.std.proofs.lemmas.Iterator.Consumers.{count_from_yields_List}
 use Rattle.std.proofs.lemmas.Iterator.Search.{YieldsList-from_take_while}
@@ -27,6 +27,7 @@ returns c =
     let w = c.split_at.result.0.now in
     let run : w ≡ longest_run is_letter text = c.split_at.ensures.front ∙ ap (λ k. take k text) (counted (goal.at.returns c).After-count-n) ∙ run_take is_letter text in
     let f = word_front text c.requires.some c.requires.letter ∙ ap (λ x. unless (word_fault x) (word x)) (sym run) in
+    let few : length w ≤ 16 = omega arith in
     record {
       found = grind (arith, nat_tests);
       split = c.split_at.ensures.by_index.0;
