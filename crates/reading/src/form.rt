@@ -3,7 +3,7 @@ ghost use Rattle.std.specs.Prelude.{◌≡◌, OnOk};
 ghost use Rattle.text.specs.Cursor.{Onward};
 
 use crate::fault::FormFault;
-use text::lexer::Cursor;
+use text::cursor::Cursor;
 use text::number::numeral_value;
 use text::token::Token;
 

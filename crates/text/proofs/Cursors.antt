@@ -1,6 +1,6 @@
 -- A token that is taken brings the cursor onward.
 use Rattle.std.proofs.Common.{◌≡◌, ℕ, ◌≤◌, List, length, ap, ◌∙◌, arith, length-append}
-use Rattle.text.specs.declared.lexer.Cursor.{Cursor}
+use Rattle.text.specs.declared.cursor.Cursor.{Cursor}
 use Rattle.text.specs.declared.token.Token.{Token}
 use Rattle.text.specs.Cursor.{reach, Onward}
 use Rattle.text.specs.Taken.{view, Took}

@@ -11,10 +11,6 @@ use Rattle.text.specs.Longest.{Ends}
 abbrev pub count : (ℕ → Bool) → List ℕ → ℕ
 count class bs = length (longest_run class bs)
 
--- a run is no longer than its text
-pub run_le : (class : ℕ → Bool) (bs : List ℕ) → count class bs ≤ length bs
-run_le class bs = omega (arith, length-prefix_len class bs, prefix_len-le-length class bs)
-
 -- a run is a front of its text
 pub run_take : (class : ℕ → Bool) (bs : List ℕ) → take (count class bs) bs ≡ longest_run class bs
 run_take class bs = ap (λ k. take k bs) (length-prefix_len class bs)

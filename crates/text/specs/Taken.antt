@@ -1,11 +1,10 @@
 -- What a step of the lexer answers, by the front of the text.
-use Rattle.std.specs.Prelude.{◌≡◌, ℕ, ◌+◌, List, ◌++◌, length, drop, Ok, Err, Result}
+use Rattle.std.specs.Prelude.{◌≡◌, ℕ, List, ◌++◌, length, drop, Ok, Err, Result}
 use Rattle.std.specs.Borrow.{Bor}
 use Rattle.text.specs.declared.token.Token.{Token}
 use Rattle.text.specs.declared.token.Token.TheVariants.{Open, Close, Space, LineEnd, Word, Numeral}
 use Rattle.text.specs.declared.token.TokenFault.{TokenFault}
 use Rattle.text.specs.declared.token.TokenRule.{TokenRule}
-use Rattle.text.specs.declared.lexer.Cursor.{Cursor}
 use Rattle.text.specs.Token.{Tok, mark, word, numeral, bytes, fault, got, front}
 
 -- the token that a value of the code stands for
@@ -43,7 +42,7 @@ abbrev pub Found : List ℕ → ℕ → Result (Token × Bor (List ℕ)) TokenRu
 Found text at (Ok found) = Took text at found.0 found.1.now
 Found text at (Err rule) = front text ≡ fault rule
 
--- the answer of a step at the cursor c, and the cursor n after it: a token is taken and passed, or there is none and n is c
-abbrev pub Next : Cursor → Result Token TokenFault → Cursor → Type 0
-Next c (Ok t) n = Took c.rest.now c.place t n.rest.now × (n.place ≡ c.place + length (bytes (view t)))
-Next c (Err e) n = Fails c.rest.now c.place e × (n ≡ c)
+-- the answer of a step at a text and its place
+abbrev pub Next : List ℕ → ℕ → Result (Token × Bor (List ℕ)) TokenFault → Type 0
+Next text at (Ok found) = Took text at found.0 found.1.now
+Next text at (Err e) = Fails text at e

@@ -35,6 +35,7 @@ impl<'a> Numeral<'a> {
     }
 
     /// The first rule that an optional minus and a run of digits break.
+    // An `Option`: what is asked for is a broken rule, and `is_lawful` asks whether there is none.
     pub(crate) fn broken_rule(self) -> Option<TokenRule>
         ensures { result ≡ rule_broken self.entry.minus self.entry.digits.now }
     {
@@ -73,6 +74,8 @@ fn decimal(digits: &[u8]) -> u32
     ensures small { result < 10 ^ 6 }
 {
     let mut value = 0;
+    // A `fold` was tried: its closure would have to say how large the number so far can be, and its proof did not close. What the
+    // library parses is a text, and can fail.
     for digit in digits {
         value = value * 10 + u32::from(*digit - b'0');
     }

@@ -1,16 +1,12 @@
 // Tokens and numbers of short texts.
-use crate::lexer::Cursor;
+use crate::cursor::Cursor;
+use crate::lexer::next_token;
 use crate::number::numeral_value;
 use crate::token::{Token, TokenFault, TokenRule};
 
 /// The fault at the front of a text at byte place 7, if there is one.
 fn fault(text: &[u8]) -> Option<TokenFault> {
-    Cursor {
-        rest: text,
-        place: 7,
-    }
-    .next_token()
-    .err()
+    next_token(text, 7).err()
 }
 
 /// A fault at byte place 7.
@@ -20,31 +16,42 @@ fn breaks(rule: TokenRule) -> Option<TokenFault> {
 
 #[test]
 fn takes_a_mark(rt: HostRuntime) {
-    let mut cursor = Cursor::new(b"(");
-    assert_eq!(rt; cursor.next_token(), Ok(Token::Open));
-    assert!(rt; cursor.rest.is_empty());
+    assert_eq!(rt; next_token(b"(", 0), Ok((Token::Open, b"".as_slice())));
 }
 
 #[test]
 fn takes_a_word(rt: HostRuntime) {
-    let mut cursor = Cursor {
-        rest: b"grid 1)",
-        place: 1,
-    };
-    assert_eq!(rt; cursor.next_token(), Ok(Token::Word(b"grid", 1)));
-    assert_eq!(rt; cursor.rest, b" 1)".as_slice());
-    assert_eq!(rt; cursor.place, 5);
+    assert_eq!(rt;
+        next_token(b"grid 1)", 1),
+        Ok((Token::Word(b"grid", 1), b" 1)".as_slice()))
+    );
 }
 
 #[test]
 fn takes_a_numeral(rt: HostRuntime) {
-    let mut cursor = Cursor {
-        rest: b"-12)",
-        place: 5,
-    };
-    assert_eq!(rt; cursor.next_token(), Ok(Token::Numeral(b"-12", 5)));
-    assert_eq!(rt; cursor.rest, b")".as_slice());
-    assert_eq!(rt; cursor.place, 8);
+    assert_eq!(rt;
+        next_token(b"-12)", 5),
+        Ok((Token::Numeral(b"-12", 5), b")".as_slice()))
+    );
+}
+
+#[test]
+fn passes_what_it_takes(rt: HostRuntime) {
+    let mut cursor = Cursor::new(b"(grid -12)R");
+    assert_eq!(rt; cursor.next_token(), Ok(Token::Open));
+    assert_eq!(rt; cursor.next_token(), Ok(Token::Word(b"grid", 1)));
+    assert_eq!(rt; cursor.next_token(), Ok(Token::Space));
+    assert_eq!(rt; cursor.next_token(), Ok(Token::Numeral(b"-12", 6)));
+    assert_eq!(rt; cursor.next_token(), Ok(Token::Close));
+    assert_eq!(rt;
+        cursor.next_token(),
+        Err(TokenFault {
+            place: 10,
+            rule: TokenRule::NoToken
+        })
+    );
+    assert_eq!(rt; cursor.place, 10);
+    assert_eq!(rt; cursor.rest, b"R".as_slice());
 }
 
 #[test]

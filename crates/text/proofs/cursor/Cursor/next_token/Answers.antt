@@ -3,7 +3,7 @@ use Rattle.std.proofs.Common.{length, ap, ◌∙◌, arith, rules, length-append
 use Rattle.text.specs.Taken.{view, Took}
 use Rattle.text.specs.Token.{bytes}
 use Rattle.text.proofs.Cursors.{onward}
-use Rattle.text.proofs.lexer.Cursor.next_token.Goals as goal
+use Rattle.text.proofs.cursor.Cursor.next_token.Goals as goal
 
 pub returns-clause-onward : goal.returns-clause-onward
 returns-clause-onward c =
