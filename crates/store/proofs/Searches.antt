@@ -1,10 +1,10 @@
 -- The search for the record of a point.
 use Rattle.std.proofs.Common.{◌≡◌, ℕ, ◌+◌, ◌-◌, ◌<◌, ◌≤◌, List, length, sym, ap, ◌∙◌, subst, ⊎_elim, arith}
 use Rattle.std.proofs.lemmas.Bool.{cases_eq, cases_lt}
-use Rattle.store.specs.Index.{Index, step, Absent, Way, slot_at, home_at, point_at, start_of}
+use Rattle.store.specs.Index.{Index, Absent, Way, slot_at, home_at, point_at, start_of}
 use Rattle.store.specs.declared.entry.Entry.{Entry}
 use Rattle.store.specs.declared.entry.Slot.TheVariants.{Empty, Gone, At}
-use Rattle.store.proofs.Rounds.{First, step_up, step_round, first_up, first_low}
+use Rattle.store.proofs.Rounds.{First, step, step_up, step_round, first_up, first_low}
 
 -- the slot j leads to no record with the point p
 abbrev pub Differs : List Entry → ℕ → ℕ → Type 0
@@ -39,10 +39,10 @@ absent_past es used p h m ok start a le all stop i b e = ⊎_elim below above (c
     below : j < h → ⊥
     below x = ⊎_elim (λ l. first_low (Differs es p) h n m (omega arith) all j x l i (ok.there i b) e)
         (λ g. let t = stop (omega arith) in ⊎_elim
-        (λ u. way.round (h + m) x (omega arith) (omega arith) (ap (slot_at es) (sym (step_up h n m u)) ∙ t))
+        (λ u. way.round (h + m) x (omega arith) u (ap (slot_at es) (sym (step_up h n m u)) ∙ t))
         (λ u. let s = ap (slot_at es) (sym (step_round h n m u)) ∙ t in
-        ⊎_elim (not_home (m - (n - h)) s) (λ ne. way.low (m - (n - h)) x (omega arith) s) (cases_eq (m - (n - h)) j))
-        (cases_lt m (n - h)))
+        ⊎_elim (not_home (h + m - n) s) (λ ne. way.low (h + m - n) x (omega arith) s) (cases_eq (h + m - n) j))
+        (cases_lt (h + m) n))
         (cases_lt (n - h + j) m)
 
     above : h ≤ j → ⊥

@@ -125,10 +125,6 @@ module _ {S : Type 0} (es : List Entry) (ss : List S) (used : ℕ) (ok : Index e
   pub not_none : (p i : ℕ) → i < used → look (held es ss used) p ≡ slice_get ss i → look (held es ss used) p ≡ None → ⊥
   not_none p i b e n = nth_some ss i (omega arith) (sym e ∙ n)
 
-  -- a point with no state has no record
-  pub absent_from : (p : ℕ) → look (held es ss used) p ≡ None → Absent es used p
-  absent_from p e i b h = nth_some ss i (omega arith) (sym (found i p b h) ∙ e)
-
   -- one record more
   pub look_added : (fs : List Entry) (ts : List S) (p : ℕ) (s : S) → used < length ss → Added es fs used p → Written ss ts used (Some s)
       → (q : ℕ) → look (held fs ts (used + 1)) q ≡ update eqb (look (held es ss used)) p (Some s) q

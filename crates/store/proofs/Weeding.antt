@@ -39,17 +39,6 @@ module _ {S : Type 0} (t u : Store S) (f : S → Bool) (n i : ℕ) (w : Weeding 
           (λ a. ap (is_picked f) (unknown u q a))
           (which u.table.entries.now u.table.used q)
 
-  -- past a state that is not picked
-  pub weeding_passes : 0 < i → (s : S) → slice_get u.records.now (i - 1) ≡ Some s → false ≡ f s → Weeding t u f n (i - 1)
-  weeding_passes b s here e = record {
-    room = w.room;
-    below = omega (arith, w.below);
-    states = w.states;
-    done = λ k l m. ⊎_elim (λ x. ap (λ (j : ℕ). is_picked f (slice_get u.records.now j)) x ∙ ap (is_picked f) here ∙ sym e) (λ x. w.done k (omega arith) m) (cases_eq k (i - 1));
-    used = w.used;
-    count = w.count;
-  }
-
   -- past one that is
   pub weeding_drops : 0 < i → (s : S) → slice_get u.records.now (i - 1) ≡ Some s → true ≡ f s → (v : Store S) → v.room ≡ u.room → v.table.used + 1 ≡ u.table.used
       → Written u.records.now v.records.now (i - 1) (slice_get u.records.now (u.table.used - 1))

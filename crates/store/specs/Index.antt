@@ -25,10 +25,6 @@ home_at es i = (slice_index_or es i blank).home
 unfoldable pub start_of : ℕ → ℕ → ℕ
 start_of p n = ((p * 2654435769) % 2 ^ 32) % n
 
--- the slot of number k on the way from h round all n
-abbrev pub step : ℕ → ℕ → ℕ → ℕ
-step h n k = cond (nat_lt k (n - h)) (h + k) (k - (n - h))
-
 -- no slot that a search passes on its way from a to h is empty
 pub record Way (es : List Entry) (a h : ℕ) : Type 0 where
   pub up : (k : ℕ) → a ≤ k → k < h → slot_at es k ≢ Empty

@@ -73,6 +73,7 @@ impl<'m, S: Copy> Store<'m, S> {
         }
     }
 
+    // That the capacity stays is a clause of each call below: it is about the store before and after, which no invariant can be.
     /// Gives a state to a point that has none.
     pub fn insert(&mut self, point: u32, state: S) -> Result<(), InsertFault>
         ensures answer { InsertAnswer (items self.old) (items self.new) (capacity self.old) point state result }

@@ -3,6 +3,7 @@ ghost use Rattle.std.specs.Prelude.{◌≡◌};
 ghost use Rattle.store.specs.Index.{blank, taken};
 
 /// What a slot of the hash table holds: nothing yet, nothing any more, or the number of a record.
+// No `Option`: a search ends at an empty slot, and goes on past one that is gone.
 #[derive(Clone, Copy)]
 pub(crate) enum Slot {
     Empty,
@@ -10,6 +11,7 @@ pub(crate) enum Slot {
     At(usize),
 }
 
+// Numbers lead from entry to entry, since the memory is lent.
 /// The entry of number i has the slot i of the hash table, and of the record i the point and the slot that leads to it, its home.
 #[derive(Clone, Copy)]
 pub struct Entry {

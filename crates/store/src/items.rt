@@ -4,6 +4,7 @@ ghost use Rattle.std.specs.Iterator.{YieldsFirst, item_count};
 use super::entry::Entry;
 
 /// The points and the states of the records that are left.
+// Two slices, as they are lent to the store; a `Zip` of their iterators would only wrap them.
 #[derive(Clone, Drop)]
 pub struct Items<'a, S> {
     pub(crate) entries: &'a [Entry],

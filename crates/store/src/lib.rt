@@ -22,6 +22,7 @@ pub use fault::InsertFault;
 pub use items::Items;
 pub use picks::Picks;
 
+// Counts beside the slices, and numbers of records in place of references: the memory is lent, and nothing is allocated.
 /// Room for so many records, of which those in use lie at the front of their slice, and the table that leads to them.
 #[derive(Drop)]
 pub struct Store<'m, S> {

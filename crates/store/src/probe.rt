@@ -1,6 +1,6 @@
 // Linear probing: from a point's start to the end of the slots, and then from slot 0 to the start.
 ghost use Rattle.std.specs.Prelude.{◌≡◌, ◌<◌, ◌≤◌, length, MatchOption};
-ghost use Rattle.store.specs.Index.{Absent, Free, Place, start_of, step};
+ghost use Rattle.store.specs.Index.{Absent, Free, Place, start_of};
 
 use super::entry::Slot;
 use super::table::Table;
@@ -17,17 +17,6 @@ fn start(p: u32, n: usize) -> usize
     p.wrapping_mul(SPREAD) as usize % n
 }
 
-/// The slot of number `k` on the way from `h` round all `n`.
-// A count with the slot computed from it: a chain of two ranges, or of two parts of the slice, takes 1.7 times as long.
-fn step(h: usize, n: usize, k: usize) -> usize
-    requires start { h < n }
-    requires within { k < n }
-    ensures value { result ≡ step h n k }
-    ensures bound { result < n }
-{
-    if k < n - h { h + k } else { k - (n - h) }
-}
-
 impl<'m> Table<'m> {
     /// The record of a point.
     pub(crate) fn find(&self, p: u32) -> Option<usize>
@@ -36,10 +25,10 @@ impl<'m> Table<'m> {
         if self.used == 0 {
             return None;
         }
-        let n = self.entries.len();
-        let h = start(p, n);
-        for k in 0..n {
-            match self.entries[step(h, n, k)].slot {
+        let h = start(p, self.entries.len());
+        let (low, high) = self.entries.split_at(h);
+        for e in high.iter().chain(low) {
+            match e.slot {
                 Slot::Empty => return None,
                 Slot::Gone => {}
                 Slot::At(i) => {
@@ -59,8 +48,8 @@ impl<'m> Table<'m> {
     {
         let n = self.entries.len();
         let h = start(p, n);
-        for k in 0..n {
-            let j = step(h, n, k);
+        // `find` was tried in place of the loop, and that its closure may look at the slots it is given was left unproved.
+        for j in (h..n).chain(0..h) {
             if !self.entries[j].slot.is_taken() {
                 return j;
             }

@@ -4,6 +4,7 @@ ghost use Rattle.store.specs.Index.{Index, Absent, Added, Dropped, Rehashed, wor
 
 use super::entry::{Entry, Slot};
 
+// A count beside the slice: the memory is lent.
 /// The entries are an index of the first `used` records; `worn` counts the removals since the hash table was made.
 #[derive(Drop)]
 pub(crate) struct Table<'m> {
