@@ -33,8 +33,3 @@ Whole G m number n (Some z) = InRange n × (m z ≡ m (number n))
 abbrev pub Back : (G : Group) {X : Type 0} → (X → G.Member) → (ℤ → X) → X → Option ℤ → Type 0
 Back G m number x None = (n : ℤ) → InRange n → m (number n) ≢ m x
 Back G m number x (Some n) = InRange n × (m (number n) ≡ m x)
-
--- where there is an answer, P holds of it
-abbrev pub Answered : {X : Type 0} → Option X → (X → Type 0) → Type 0
-Answered None P = Unit {0}
-Answered (Some x) P = P x

@@ -4,7 +4,7 @@ use Rattle.std.proofs.Math.Path.{refl, ap}
 use Rattle.std.proofs.Common.{sym, subst, ◌∙◌, inl, inr, zero-le, mod-eq_of_lt, add_assoc, add_comm, add-zero, arith, leb→le}
 use Rattle.std.proofs.Math.Logic.{⊎_elim}
 use Rattle.std.proofs.Math.Bridge.{le_prop}
-use Rattle.std.proofs.Math.Nat.{mod_self, mod-add-mod, add-mod-mod, add-mod, add-mod_right, mod-mod}
+use Rattle.std.proofs.Math.Nat.{mod_self, zero-mod, mod-add-mod, add-mod-mod, add-mod, add-mod_right, mod-mod}
 use Rattle.std.proofs.Math.IntN.{sub_ℕ}
 use Rattle.std.proofs.lemmas.Int.{ints}
 use Rattle.std.proofs.lemmas.Bool.{cases_lt, cases_eq, eq-eqb, ne_eqb, cond-true, cond-false, lt-ltb, le-ltb}
@@ -26,15 +26,12 @@ module _ (p : Modulus) where
   residue_laws = record {
     plus_assoc = λ x y z. residue_same (mod-add-mod (x.least + y.least) p.modulus z.least ∙ ap (λ n. n % p.modulus) (add_assoc x.least y.least z.least) ∙ sym (add-mod-mod x.least (y.least + z.least) p.modulus));
     plus_comm = λ x y. residue_same (ap (λ n. n % p.modulus) (add_comm x.least y.least));
-    plus_zero = λ x. residue_same (ap (λ n. n % p.modulus) (ap (λ k. x.least + k) (zero_mod) ∙ add-zero x.least) ∙ least_of x);
-    plus_minus = λ x. residue_same (add-mod-mod x.least (p.modulus - x.least) p.modulus ∙ ap (λ n. n % p.modulus) (let h = x.below in let e : x.least + (p.modulus - x.least) ≡ p.modulus = omega arith in e) ∙ mod_self p.modulus ∙ sym zero_mod);
+    plus_zero = λ x. residue_same (ap (λ n. n % p.modulus) (ap (λ k. x.least + k) (zero-mod p.modulus) ∙ add-zero x.least) ∙ least_of x);
+    plus_minus = λ x. residue_same (add-mod-mod x.least (p.modulus - x.least) p.modulus ∙ ap (λ n. n % p.modulus) (let h = x.below in let e : x.least + (p.modulus - x.least) ≡ p.modulus = omega arith in e) ∙ mod_self p.modulus ∙ sym (zero-mod p.modulus));
     size_zero = refl;
     size_minus = λ x. refl;
     size_plus = λ x y. zero-le;
   }
-    where
-      zero_mod : 0 % p.modulus ≡ 0
-      zero_mod = mod-eq_of_lt (let w = p.wide in omega arith)
 
   -- a number below twice the modulus, and what is left of it
   once : (n : ℕ) → n < p.modulus + p.modulus → (n % p.modulus ≡ n) ⊎ (n % p.modulus + p.modulus ≡ n)

@@ -64,6 +64,7 @@ impl Kind for Dyadic {
         self.count.unsigned_abs()
     }
 
+    #[tactic(auto, using(crate::specs::IntegersLemmas::fit_told))]
     fn fit(self) -> bool {
         self.size() <= limits::SAMPLE_LIMIT && is_whole(self.count)
     }

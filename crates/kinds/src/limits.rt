@@ -1,5 +1,5 @@
 // The limits that every kind keeps.
-ghost use Rattle.std.specs.Prelude.{◌+◌, ◌^◌, ◌<◌, ◌≤◌, true, false, MatchBool};
+ghost use Rattle.std.specs.Prelude.{◌+◌, ◌^◌, ◌<◌, ◌↔◌, IsTrue};
 ghost use Rattle.kinds.specs.Numbers.{InRange};
 
 /// The greatest size of two summands together, and of what has a negative: 2^60.
@@ -13,22 +13,22 @@ pub(crate) const LARGEST_NUMBER: u32 = 65_536;
 
 /// Whether a size passes the limit.
 pub(crate) fn passes(size: u64) -> bool
-    ensures { MatchBool result (2 ^ 60 < size) (size ≤ 2 ^ 60) }
+    ensures { IsTrue result ↔ (2 ^ 60 < size) }
 {
     size > SIZE_LIMIT
 }
 
 /// Whether two sizes together pass the limit.
 pub(crate) fn pass_together(a: u64, b: u64) -> bool
-    ensures { MatchBool result (2 ^ 60 < a + b) (a + b ≤ 2 ^ 60) }
+    ensures { IsTrue result ↔ (2 ^ 60 < a + b) }
 {
     passes(a.saturating_add(b))
 }
 
 /// Whether a number is one that `whole` takes.
 pub(crate) fn in_range(n: i64) -> bool
-    ensures { MatchBool result (InRange n) (InRange n → ⊥) }
+    ensures { IsTrue result ↔ InRange n }
 {
-    let largest = LARGEST_NUMBER as i64;
-    -largest <= n && n <= largest
+    let largest = i64::from(LARGEST_NUMBER);
+    (-largest..=largest).contains(&n)
 }

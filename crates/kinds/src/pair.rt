@@ -35,39 +35,46 @@ impl<A: Kind, B: Kind> Kind for Pair<A, B> {
         }
     }
 
+    // Each of the operations below names its parts' answers in place: a function of two answers would work out the second for nothing
+    // where the first is none.
     fn sum(self, other: Pair<A, B>) -> Option<Pair<A, B>> {
         if limits::pass_together(self.size(), other.size()) {
             return None;
         }
-        let first = self.first.sum(other.first)?;
-        let second = self.second.sum(other.second)?;
-        Some(Pair { first, second })
+        Some(Pair {
+            first: self.first.sum(other.first)?,
+            second: self.second.sum(other.second)?,
+        })
     }
 
     fn negative(self) -> Option<Pair<A, B>> {
-        let first = self.first.negative()?;
-        let second = self.second.negative()?;
-        Some(Pair { first, second })
+        Some(Pair {
+            first: self.first.negative()?,
+            second: self.second.negative()?,
+        })
     }
 
     fn half(self) -> Option<Pair<A, B>> {
-        let first = self.first.half()?;
-        let second = self.second.half()?;
-        Some(Pair { first, second })
+        Some(Pair {
+            first: self.first.half()?,
+            second: self.second.half()?,
+        })
     }
 
     fn size(self) -> u64 {
         self.first.size().max(self.second.size())
     }
 
+    #[tactic(auto, using(crate::specs::ProductLemmas::fit_second_told, crate::specs::ProductLemmas::fit_first_told))]
     fn fit(self) -> bool {
         self.first.fit() && self.second.fit()
     }
 
     fn whole(n: i32) -> Option<Pair<A, B>> {
-        let first = A::whole(n)?;
-        let second = B::whole(n)?;
-        Some(Pair { first, second })
+        Some(Pair {
+            first: A::whole(n)?,
+            second: B::whole(n)?,
+        })
     }
 
     fn back(self) -> Option<i32> {

@@ -3,5 +3,5 @@ use Rattle.kinds.specs.Residues.{mersenne}
 use Rattle.kinds.specs.ResiduesLemmas.{residue_same}
 use Rattle.kinds.proofs.residue.ResidueKind.negative.Goals as goal
 
-pub returns : goal.returns
-returns c = record { negative = (zero-le, residue_same mersenne (omega arith)); answered = omega arith }
+pub returns-clause-negative : goal.returns-clause-negative
+returns-clause-negative c = (zero-le, residue_same mersenne (omega arith))

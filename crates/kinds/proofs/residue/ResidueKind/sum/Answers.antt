@@ -3,5 +3,5 @@ use Rattle.kinds.specs.Residues.{mersenne}
 use Rattle.kinds.specs.ResiduesLemmas.{residue_same}
 use Rattle.kinds.proofs.residue.ResidueKind.sum.Goals as goal
 
-pub returns : goal.returns
-returns c = record { sum = (zero-le, residue_same mersenne (omega arith)); answered = omega arith }
+pub returns-clause-sum : goal.returns-clause-sum
+returns-clause-sum c = (zero-le, residue_same mersenne (omega arith))
