@@ -1,8 +1,7 @@
 -- What the theorems in several dimensions ask of an axis.
-use Rattle.std.proofs.Common.{◌≡◌, ℕ, suc, ◌+◌, ◌-◌, ◌*◌, ◌^◌, ◌<◌, ◌≤◌, cond, eqb, ◌⊎◌, List, [], ◌∷◌, Some, None, Option}
+use Rattle.std.proofs.Common.{◌≡◌, ℕ, suc, ◌+◌, ◌-◌, ◌*◌, ◌^◌, ◌<◌, ◌≤◌, cond, eqb, ◌⊎◌, List, [], ◌∷◌, sum_by, Some, None, Option}
 use Rattle.basis.specs.Lists.{IsIn, AllDistinct}
 use Rattle.basis.specs.Axis.{Axis}
-use Rattle.basis.proofs.Algebra.{sum_ℕ}
 
 -- j is a neighbour of k
 abbrev pub Neighbour : Axis → ℕ → ℕ → Type 0
@@ -41,7 +40,7 @@ pub record Lawful (a : Axis) : Type 0 where
   pub climb : (j k : ℕ) → IsIn j a.coords → IsIn k a.coords → 0 < a.numerator j k → (j ≡ k) ⊎ Above a j k
   pub share : ℕ → ℕ
   pub unit : ℕ
-  pub whole : (k : ℕ) → IsIn k a.coords → sum_ℕ a.coords (λ y. share y * fine a top k y) * 2 ^ a.scale k ≡ 2 ^ (top + unit)
+  pub whole : (k : ℕ) → IsIn k a.coords → sum_by (λ y. share y * fine a top k y) a.coords * 2 ^ a.scale k ≡ 2 ^ (top + unit)
 
 -- each axis of a list is lawful
 abbrev pub AllLawful : List Axis → Type 0

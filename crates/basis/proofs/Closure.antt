@@ -1,22 +1,20 @@
 -- A set that has each point's parents has each place of a point's stencil, and these are of lower levels.
-use Rattle.std.proofs.Common.{◌≡◌, ℕ, zero, suc, ◌+◌, ◌<◌, ◌≤◌, ◌⊎◌, List, [], ◌∷◌, map, sym, subst, inl, inr, not-suc-le-zero, arith}
+use Rattle.std.proofs.Common.{ℕ, zero, suc, ◌+◌, ◌<◌, ◌≤◌, List, [], ◌∷◌, map, sym, subst, inl, inr, not-suc-le-zero, arith}
 use Rattle.basis.specs.Lists.{IsIn}
 use Rattle.basis.specs.Axis.{Axis}
 use Rattle.basis.specs.Grid.{Inside, total, level_sum, parents, Closed, SparseGrid}
 use Rattle.basis.proofs.Lists.{listed_left, listed_right, listed_map}
-use Rattle.basis.proofs.AxisLaws.{Above, Lawful, AllLawful}
+use Rattle.basis.proofs.AxisLaws.{Lawful, AllLawful}
 use Rattle.basis.proofs.Stencil.{Near, Around, near_map, around_map}
 
 -- in one direction, a set that has parents has each coordinate whose hat is not zero at one of its own
 ancestor : (a : Axis) → Lawful a → (In : ℕ → Type 0) → ((k j : ℕ) → In k → IsIn j (a.parents k) → In j) → (j : ℕ) → IsIn j a.coords
     → (n k : ℕ) → a.level k < n → IsIn k a.coords → In k → 0 < a.numerator j k → In j
 ancestor a laws In up j hj zero k l hk ik h = absurd (not-suc-le-zero l)
-ancestor a laws In up j hj (suc n) k l hk ik h =
-    go (laws.climb j k hj hk h) (λ w. ancestor a laws In up j hj n w.up (omega (arith, w.higher)) w.listed (up k w.up ik w.is_parent) w.under)
-  where
-    go : (j ≡ k) ⊎ Above a j k → (Above a j k → In j) → In j
-    go (inl e) f = subst In (sym e) ik
-    go (inr w) f = f w
+ancestor a laws In up j hj (suc n) k l hk ik h = elim (laws.climb j k hj hk h) [
+  | inl e ↦ subst In (sym e) ik
+  | inr w ↦ ancestor a laws In up j hj n w.up (omega (arith, w.higher)) w.listed (up k w.up ik w.is_parent) w.under
+]
 
 pub closed_near : (ax : List Axis) → AllLawful ax → (In : List ℕ → Type 0) → ((p : List ℕ) → In p → Inside ax p) → Closed ax In → (p : List ℕ) → In p → Near ax In p
 unfolding parents

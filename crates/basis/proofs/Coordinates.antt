@@ -1,14 +1,15 @@
 -- The two axes are lawful, by tests at all their coordinates.
-use Rattle.std.proofs.Common.{◌≡◌, ℕ, zero, suc, ◌+◌, ◌*◌, ◌^◌, ◌<◌, ◌≤◌, Bool, true, ◌&&◌, leb, ◌⊎◌, List, [], ◌∷◌, Some, Option, sym, refl, ◌∙◌, subst, inl, inr, arith}
+use Rattle.std.proofs.Common.{◌≡◌, ℕ, zero, suc, ◌+◌, ◌*◌, ◌^◌, ◌<◌, ◌≤◌, true, leb, ◌⊎◌, List, Some, Option, sym, refl, ◌∙◌, subst, inl, inr, arith, sum_by}
 use lib.Count.{count_trailing_zeros}
-use Rattle.std.proofs.lemmas.Bool.{and_parts, and_from, cases_lt, le-leb}
+use Rattle.std.proofs.lemmas.Bool.{cases_lt, le-leb}
+use Rattle.std.specs.List.{list_all}
 use Rattle.std.specs.Option.{option_to_list}
 use Rattle.points.specs.Axis as coordinate
-use Rattle.points.proofs.Claims.{Claim, same, at_most, holds, given, also, either, some, any, Means, test, tests, below}
+use Rattle.points.proofs.Claims.{Claim, same, at_most, holds, given, also, either, some, any, Means, test, sound}
 use Rattle.points.proofs.Hierarchy.{inner_bounds, bounds_inner}
+use Rattle.basis.proofs.Lists.{every_listed}
 use Rattle.basis.specs.Lists.{IsIn, AllDistinct}
 use Rattle.basis.specs.Axis.{down_from, zero_border, trivial}
-use Rattle.basis.proofs.Algebra.{sum_ℕ}
 use Rattle.basis.proofs.AxisLaws.{Neighbour, at, fine, spike, Above, Lawful}
 
 -- the numbers from n down to 1, each once
@@ -21,11 +22,7 @@ down_only (suc n) k (inr h) = let w = down_only n k h in (w.0, omega (arith, w.1
 down_all : (n k : ℕ) → 1 ≤ k → k ≤ n → IsIn k (down_from n)
 unfolding down_from
 down_all zero k l h = absurd (omega arith)
-down_all (suc n) k l h = go (cases_lt n k) (down_all n k l)
-  where
-    go : (n < k) ⊎ (k ≤ n) → (k ≤ n → IsIn k (down_from n)) → (k ≡ suc n) ⊎ IsIn k (down_from n)
-    go (inl e) ih = inl (omega arith)
-    go (inr e) ih = inr (ih e)
+down_all (suc n) k l h = elim (cases_lt n k) [ inl e ↦ inl (omega arith) | inr e ↦ inr (down_all n k l e) ]
 
 down_once : (n : ℕ) → AllDistinct (down_from n)
 unfolding down_from
@@ -41,27 +38,12 @@ pub inner_listed : (k : ℕ) → coordinate.inner k ≡ true → IsIn k zero_bor
 unfolding zero_border
 inner_listed k e = let w = inner_bounds k e in down_all 127 k w.0 w.1
 
--- the test of f at each number of a list
-passes : List ℕ → (ℕ → Claim) → Bool
-passes [] f = true
-passes (k ∷ ks) f = test (f k) && passes ks f
+-- a claim whose test passes at each number of a list holds there
+each : (ks : List ℕ) (f : ℕ → Claim) → list_all (λ k. test (f k)) ks ≡ true → (k : ℕ) → IsIn k ks → Means (f k)
+each ks f t k h = sound (f k) (every_listed (λ j. test (f j)) ks t k h)
 
--- so the claim holds of each
-each : (ks : List ℕ) (f : ℕ → Claim) → passes ks f ≡ true → (k : ℕ) → IsIn k ks → Means (f k)
-unfolding passes tests
-each [] f t k h = absurd h
-each (j ∷ ks) f t k (inl e) =
-    let u = and_parts (test (f j)) (passes ks f) t in
-    subst (λ i. Means (f i)) (sym e) (below 1 (λ i. f j) (and_from (test (f j)) true u.0 refl) 0 (omega arith))
-each (j ∷ ks) f t k (inr h) = each ks f (and_parts (test (f j)) (passes ks f) t).1 k h
-
--- at each two numbers of a list
-pairs : List ℕ → (ℕ → ℕ → Claim) → Bool
-pairs ks f = passes ks (λ j. holds (passes ks (f j)))
-
-each_two : (ks : List ℕ) (f : ℕ → ℕ → Claim) → pairs ks f ≡ true → (j k : ℕ) → IsIn j ks → IsIn k ks → Means (f j k)
-unfolding pairs
-each_two ks f t j k hj hk = each ks (f j) (each ks (λ i. holds (passes ks (f i))) t j hj) k hk
+each_two : (ks : List ℕ) (f : ℕ → ℕ → Claim) → list_all (λ j. list_all (λ k. test (f j k)) ks) ks ≡ true → (j k : ℕ) → IsIn j ks → IsIn k ks → Means (f j k)
+each_two ks f t j k hj hk = each ks (f j) (every_listed (λ i. list_all (λ l. test (f i l)) ks) ks t j hj) k hk
 
 -- q is a coordinate of a lower level than k, and n is not 0
 abbrev above_claim : ℕ → ℕ → ℕ → Claim
@@ -89,23 +71,23 @@ climb_claim j k = given (leb 1 (zero_border.numerator j k)) (parent_claim j k)
 
 -- the sum of a hat over all coordinates
 abbrev whole_claim : ℕ → Claim
-whole_claim k = same (sum_ℕ zero_border.coords (λ y. 1 * fine zero_border 6 k y) * 2 ^ coordinate.level k) (2 ^ 13)
+whole_claim k = same (sum_by (λ y. 1 * fine zero_border 6 k y) zero_border.coords * 2 ^ coordinate.level k) (2 ^ 13)
 
 -- the claims hold, by computation
 one_holds : (k : ℕ) → IsIn k zero_border.coords → Means (one_claim k)
-unfolding zero_border down_from passes test coordinate.zeros coordinate.width coordinate.level coordinate.left coordinate.right count_trailing_zeros
+unfolding zero_border down_from test coordinate.zeros coordinate.width coordinate.level coordinate.left coordinate.right count_trailing_zeros
 one_holds = each zero_border.coords one_claim refl
 
 dual_holds : (j k : ℕ) → IsIn j zero_border.coords → IsIn k zero_border.coords → Means (dual_claim j k)
-unfolding zero_border down_from passes pairs test fine spike coordinate.zeros coordinate.width coordinate.left coordinate.right count_trailing_zeros
+unfolding zero_border down_from test fine spike coordinate.zeros coordinate.width coordinate.left coordinate.right count_trailing_zeros
 dual_holds = each_two zero_border.coords dual_claim refl
 
 climb_holds : (j k : ℕ) → IsIn j zero_border.coords → IsIn k zero_border.coords → Means (climb_claim j k)
-unfolding zero_border down_from passes pairs test coordinate.zeros coordinate.width coordinate.level coordinate.left coordinate.right coordinate.parent count_trailing_zeros
+unfolding zero_border down_from test coordinate.zeros coordinate.width coordinate.level coordinate.left coordinate.right coordinate.parent count_trailing_zeros
 climb_holds = each_two zero_border.coords climb_claim refl
 
 whole_holds : (k : ℕ) → IsIn k zero_border.coords → Means (whole_claim k)
-unfolding zero_border down_from passes test fine sum_ℕ coordinate.zeros coordinate.width coordinate.level count_trailing_zeros
+unfolding zero_border down_from test fine coordinate.zeros coordinate.width coordinate.level count_trailing_zeros
 whole_holds = each zero_border.coords whole_claim refl
 
 -- what a test says of one neighbour
@@ -118,11 +100,10 @@ listed_parent o q e = subst (λ p. IsIn q (option_to_list p)) (sym e) (inl refl)
 
 climb_at : (j k : ℕ) → IsIn j zero_border.coords → IsIn k zero_border.coords → 0 < zero_border.numerator j k → (j ≡ k) ⊎ Above zero_border j k
 unfolding zero_border
-climb_at j k hj hk h = go (climb_holds j k hj hk (le-leb 1 (zero_border.numerator j k) h))
-  where
-    go : Means (parent_claim j k) → (j ≡ k) ⊎ Above zero_border j k
-    go (inl e) = inl e
-    go (inr w) = inr (record { up = w.0; is_parent = listed_parent (coordinate.parent k) w.0 w.1; listed = inner_listed w.0 w.2.0; under = w.2.1.0; higher = w.2.1.1 })
+climb_at j k hj hk h = elim (climb_holds j k hj hk (le-leb 1 (zero_border.numerator j k) h)) [
+  | inl e ↦ inl e
+  | inr w ↦ inr (record { up = w.0; is_parent = listed_parent (coordinate.parent k) w.0 w.1; listed = inner_listed w.0 w.2.0; under = w.2.1.0; higher = w.2.1.1 })
+]
 
 pub zero_border_lawful : Lawful zero_border
 unfolding zero_border
@@ -157,15 +138,15 @@ zero_listed k e = inl e
 -- which has no neighbours
 alone : (k j : ℕ) → Neighbour trivial k j → ⊥
 unfolding trivial
-alone k j (inl e) = let z : ◌≡◌ {A = ℕ} 0 1 = cc in omega arith
-alone k j (inr e) = let z : ◌≡◌ {A = ℕ} 0 1 = cc in omega arith
+alone k j (inl e) = cc
+alone k j (inr e) = cc
 
 trivial_dual : (k j : ℕ) → k ≡ 0 → j ≡ 0 → 2 * fine trivial 0 j k ≡ at (trivial.left k) (fine trivial 0 j) + at (trivial.right k) (fine trivial 0 j) + spike 0 k j
 unfolding trivial fine spike
 trivial_dual k j e f = rw (e, f)
 
-trivial_whole : (k : ℕ) → k ≡ 0 → sum_ℕ trivial.coords (λ y. 1 * fine trivial 0 k y) * 2 ^ trivial.scale k ≡ 1
-unfolding trivial fine sum_ℕ
+trivial_whole : (k : ℕ) → k ≡ 0 → sum_by (λ y. 1 * fine trivial 0 k y) trivial.coords * 2 ^ trivial.scale k ≡ 1
+unfolding trivial fine
 trivial_whole k e = rw e
 
 pub trivial_lawful : Lawful trivial

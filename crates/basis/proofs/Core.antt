@@ -29,7 +29,7 @@ module _ (G : Group) (L : Laws G) (H : Halving G) (ax : List Axis) (laws : AllLa
       let lower = around_both ax (λ q. level_sum ax q < level_sum ax p) In p (lower_around ax laws p (ins p ip)) (near p ip) in
       let gone = around_map ax _ (λ q. h q ≡ 𝟎) p (λ q w. stencil_inj In ins near h z n q w.1 (omega (arith, w.0))) lower in
       doubled_inj G L H (length ax) (h p) 𝟎
-      (sym (stencil_lead G L ax h p (ins p ip) gone) ∙ z p ip ∙ sym (hom_zero G L (doubled G (length ax)) (doubled_hom G L (length ax))))
+      (cc (stencil_lead G L ax h p (ins p ip) gone, z p ip, hom_zero G L (doubled G (length ax)) (doubled_hom G L (length ax))))
 
   module _ (points : List (List ℕ)) (grid : SparseGrid ax points) where
     -- the stencil gives the coefficients back
@@ -57,16 +57,18 @@ module _ (G : Group) (L : Laws G) (H : Halving G) (ax : List Axis) (laws : AllLa
         (stencil_hom G L ⊖ (minus_hom G L) ax g q ∙ ap ⊖ (stencil_hom G L (doubled G n) (doubled_hom G L n) ax m q))
         ∙ inverse (doubled G n (stencil G L ax m q)) in
         let none = stencil_inj (λ q. IsIn q points) grid.inside (grid_near ax laws points grid) h flat (suc (level_sum ax p)) p hp (omega arith) in
-        cancel G L (⊖ (g p)) (f p) (g p) (comm (⊖ (g p)) (f p) ∙ none ∙ sym (inverse (g p)) ∙ comm (g p) (⊖ (g p)))
+        cancel G L (⊖ (g p)) (f p) (g p) (cc (comm (⊖ (g p)) (f p), none, inverse (g p), comm (g p) (⊖ (g p))))
 
     -- no other coefficients do
     pub only : (c u : List ℕ → Member) → ((p : List ℕ) → IsIn p points → spread points c p ≡ doubled G (tops ax laws) (u p))
         → (p : List ℕ) → IsIn p points → doubled G (length ax) (c p) ≡ stencil G L ax u p
     only c u e p hp =
         let t = tops ax laws in
-        doubled_inj G L H t _ _
-        (sym (doubled_add G L t (length ax) (c p))
-        ∙ ap (λ k. doubled G k (c p)) (sym (depth_is ax laws))
-        ∙ sym (stencil_spread c p hp)
-        ∙ stencil_near G L ax (spread points c) (λ q. doubled G t (u q)) p (near_map ax (λ q. IsIn q points) _ p e (grid_near ax laws points grid p hp))
-        ∙ stencil_hom G L (doubled G t) (doubled_hom G L t) ax u p)
+        let near = near_map ax (λ q. IsIn q points) _ p e (grid_near ax laws points grid p hp) in
+        doubled_inj G L H t _ _ (cc (
+          doubled_add G L t (length ax) (c p),
+          depth_is ax laws,
+          stencil_spread c p hp,
+          stencil_near G L ax (spread points c) (λ q. doubled G t (u q)) p near,
+          stencil_hom G L (doubled G t) (doubled_hom G L t) ax u p,
+        ))

@@ -57,12 +57,12 @@ three_distinct : AllDistinct three
 three_distinct = (first, (second, ((λ h. h), tt)))
   where
     first : IsIn stay (go_left ∷ go_right ∷ []) → ⊥
-    first (inl e) = let z : ◌≡◌ {A = ℕ} 0 1 = cc in omega arith
-    first (inr (inl e)) = let z : ◌≡◌ {A = ℕ} 0 1 = cc in omega arith
+    first (inl e) = cc
+    first (inr (inl e)) = cc
     first (inr (inr h)) = h
 
     second : IsIn go_left (go_right ∷ []) → ⊥
-    second (inl e) = let z : ◌≡◌ {A = ℕ} 0 1 = cc in omega arith
+    second (inl e) = cc
     second (inr h) = h
 
 ways_all : (ax : List Axis) (w : List Move) → length w ≡ length ax → IsIn w (ways ax)

@@ -1,5 +1,6 @@
 -- The directions of a grid: d that are used, and n that are not.
-use Rattle.std.proofs.Common.{◌≡◌, ℕ, zero, suc, ◌+◌, ◌*◌, ◌≤◌, List, [], ◌∷◌, length, Some, None, Option, refl, ap, ap₂, arith}
+use Rattle.std.proofs.Common.{◌≡◌, ℕ, zero, suc, ◌+◌, ◌*◌, ◌≤◌, List, [], ◌∷◌, length, Some, None, Option, refl, ap, ap₂, arith, length-append}
+use Rattle.std.proofs.lemmas.List.{length-replicate}
 use Rattle.basis.specs.Axis.{zero_border, trivial, directions}
 use Rattle.basis.specs.Grid.{total, level_sum, scales}
 use Rattle.basis.proofs.AxisLaws.{AllLawful}
@@ -28,9 +29,7 @@ units_of (suc d) n = omega (arith, units_of d n, zero_border_figures.1)
 
 pub length_of : (d n : ℕ) → length (directions d n) ≡ d + n
 unfolding directions
-length_of zero zero = refl
-length_of zero (suc n) = omega (arith, length_of zero n)
-length_of (suc d) n = omega (arith, length_of d n)
+length_of d n = simp (length-append, length-replicate)
 
 pub shares_one : (d n : ℕ) (y : List ℕ) → shares (directions d n) (lawful d n) y ≡ 1
 unfolding directions shares lawful

@@ -1,7 +1,7 @@
 -- Products of hats in whole parts, and that the stencil of such a product is a spike.
-use Rattle.std.proofs.Common.{◌≡◌, ℕ, suc, ◌+◌, ◌-◌, ◌*◌, ◌^◌, ◌≤◌, Bool, true, false, cond, eqb, List, [], ◌∷◌, length, Some, None, Option, sym, refl, ap, ◌∙◌, ap₂, mul_assoc, mul-zero, zero-mul, mul_left_comm, arith, pow-add}
+use Rattle.std.proofs.Common.{◌≡◌, ℕ, suc, ◌+◌, ◌-◌, ◌*◌, ◌^◌, ◌≤◌, eqb, List, [], ◌∷◌, length, Some, None, Option, sym, refl, ap, ◌∙◌, ap₂, mul_assoc, mul-zero, zero-mul, mul_left_comm, arith, pow-add}
 use mathlib.Core.Path.{fun_ext}
-use Rattle.std.proofs.lemmas.Bool.{eqb-true, eq-eqb}
+use Rattle.std.proofs.lemmas.Bool.{eqb-true, eq-eqb, cond_both}
 use Rattle.kinds.specs.Group.{Group, Laws}
 use Rattle.basis.specs.Axis.{Axis}
 use Rattle.basis.specs.Grid.{Inside, total, exponents, numerators}
@@ -50,9 +50,7 @@ pub spikes_same : (ax : List Axis) (laws : AllLawful ax) (p : List ℕ) → Insi
 unfolding spikes spike depth
 spikes_same [] laws p i = refl
 spikes_same (a ∷ ax) laws [] i = absurd i
-spikes_same (a ∷ ax) laws (k ∷ ks) i =
-    ap₂ ◌*◌ (ap (λ b. cond b (2 ^ suc laws.0.top) 0) (eq-eqb k k refl)) (spikes_same ax laws.1 ks i.1)
-    ∙ sym (pow-add 2 (suc laws.0.top) (depth ax laws.1))
+spikes_same (a ∷ ax) laws (k ∷ ks) i = cc (eq-eqb k k refl, spikes_same ax laws.1 ks i.1, pow-add 2 (suc laws.0.top) (depth ax laws.1))
 
 pub spikes_apart : (ax : List Axis) (laws : AllLawful ax) (p q : List ℕ) → Inside ax p → Inside ax q → (q ≡ p → ⊥) → spikes ax laws p q ≡ 0
 unfolding spikes spike
@@ -62,11 +60,10 @@ spikes_apart [] laws (k ∷ ks) q i j n = absurd i
 spikes_apart (a ∷ ax) laws [] q i j n = absurd i
 spikes_apart (a ∷ ax) laws (k ∷ ks) [] i j n = absurd j
 spikes_apart (a ∷ ax) laws (k ∷ ks) (l ∷ ls) i j n =
-    go (eqb k l) (λ t. spikes_apart ax laws.1 ks ls i.1 j.1 (λ e. n (ap₂ ◌∷◌ (sym (eqb-true k l t)) e)))
-  where
-    go : (b : Bool) → (b ≡ true → spikes ax laws.1 ks ls ≡ 0) → cond b (2 ^ suc laws.0.top) 0 * spikes ax laws.1 ks ls ≡ 0
-    go true h = ap (λ t. 2 ^ suc laws.0.top * t) (h refl) ∙ mul-zero (2 ^ suc laws.0.top)
-    go false h = zero-mul (spikes ax laws.1 ks ls)
+    let w = 2 ^ suc laws.0.top in
+    cond_both (eqb k l) w 0 (λ z. z * spikes ax laws.1 ks ls ≡ 0)
+    (λ t. ap (λ z. w * z) (spikes_apart ax laws.1 ks ls i.1 j.1 (λ e. n (ap₂ ◌∷◌ (sym (eqb-true k l t)) e))) ∙ mul-zero w)
+    (λ t. zero-mul (spikes ax laws.1 ks ls))
 
 -- the same hats over the product of the point's own widths
 pub fines_numerators : (ax : List Axis) (laws : AllLawful ax) (q y : List ℕ) → Inside ax q → fines ax laws q y * 2 ^ exponents ax q ≡ numerators ax q y * 2 ^ tops ax laws
@@ -102,9 +99,8 @@ module _ (G : Group) (L : Laws G) where
   mix_taken : (m l r s : ℕ) (x : Member) → 2 * m ≡ l + r + s → mix G L (taken G m x) (taken G l x) (taken G r x) ≡ taken G s x
   mix_taken m l r s x e =
       let c = taken G l x ⊕ taken G r x in
-      let two : taken G m x ⊕ taken G m x ≡ taken G s x ⊕ c =
-      sym (taken_add G L m m x) ∙ ap (λ k. taken G k x) (omega arith) ∙ taken_add G L s (l + r) x ∙ ap (λ t. taken G s x ⊕ t) (taken_add G L l r x) in
-      ap (λ t. t ⊕ ⊖ c) two ∙ assoc (taken G s x) c (⊖ c) ∙ ap (λ t. taken G s x ⊕ t) (inverse c) ∙ right-neutral (taken G s x)
+      let i : m + m ≡ s + (l + r) = omega arith in
+      cc (taken_add G L m m x, taken_add G L s (l + r) x, taken_add G L l r x, assoc (taken G s x) c (⊖ c), inverse c, right-neutral (taken G s x))
 
   -- the stencil of a hat is one spike
   pub stencil_dual : (ax : List Axis) (laws : AllLawful ax) (p q : List ℕ) → Inside ax p → Inside ax q → (x : Member)

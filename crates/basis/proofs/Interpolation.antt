@@ -1,5 +1,5 @@
 -- The laws over any lawful axes, for samples that are some member doubled e times.
-use Rattle.std.proofs.Common.{◌≡◌, ℕ, ◌+◌, ◌-◌, ◌^◌, ◌≤◌, List, length, sym, ap, ◌∙◌, mul_comm, add_comm, arith}
+use Rattle.std.proofs.Common.{◌≡◌, ℕ, ◌+◌, ◌-◌, ◌^◌, ◌≤◌, List, length, sym, ap, ◌∙◌, mul_comm, add_comm, arith, sum_by}
 use Rattle.kinds.specs.Group.{Group, Laws, doubled}
 use Rattle.kinds.specs.Halving.{Halving}
 use Rattle.basis.specs.Lists.{IsIn}
@@ -8,7 +8,7 @@ use Rattle.basis.specs.Axis.{Axis}
 use Rattle.basis.specs.Grid.{places, exponents, scales, numerators, SparseGrid}
 use Rattle.basis.specs.Surplus.{surplus}
 use Rattle.basis.specs.Interpolant.{value, integral, Meets}
-use Rattle.basis.proofs.Algebra.{sum_ℕ, taken_hom, taken_mul, taken_doubled, doubled_taken, doubled_hom, doubled_add, doubled_comm, doubled_inj, halved_doubled, halved_exact, sum_ext, sum_hom, sum_swap, sum_taken}
+use Rattle.basis.proofs.Algebra.{taken_hom, taken_mul, taken_doubled, doubled_taken, doubled_hom, doubled_add, doubled_comm, doubled_inj, halved_doubled, halved_exact, sum_ext, sum_hom, sum_swap, sum_taken}
 use Rattle.basis.proofs.AxisLaws.{AllLawful}
 use Rattle.basis.proofs.Stencil.{Near, near_map, stencil}
 use Rattle.basis.proofs.Hats.{fines, tops, depth_is, exponents_tops, fines_numerators}
@@ -51,25 +51,31 @@ module _ (G : Group) (L : Laws G) (H : Halving G) {ax : List Axis} {laws : AllLa
 
   -- one may halve first and take multiples then
   pub halves_first : (m k : ℕ) (p : List ℕ) → IsIn p points → m + steps ax p ≤ e → halved G H m (taken G k (rise p)) ≡ taken G k (halved G H m (rise p))
-  halves_first m k p hp le =
-      let z = halved G H m (rise p) in
-      ap (λ x. halved G H m (taken G k x)) (sym (surplus_exact m p hp le)) ∙ ap (halved G H m) (taken_doubled G L k m z) ∙ halved_doubled G L H m (taken G k z)
+  halves_first m k p hp le = let z = halved G H m (rise p) in cc (surplus_exact m p hp le, taken_doubled G L k m z, halved_doubled G L H m (taken G k z))
 
   pub term_exact : Roomy exponents → (y q : List ℕ) → IsIn q points
       → doubled G (exponents ax q) (halved G H (exponents ax q) (taken G (numerators ax q y) (rise q))) ≡ taken G (numerators ax q y) (rise q)
   term_exact room y q hq =
       let s = exponents ax q in
       let k = numerators ax q y in
-      ap (doubled G s) (halves_first s k q hq (room q hq)) ∙ sym (taken_doubled G L k s (halved G H s (rise q))) ∙ ap (taken G k) (surplus_exact s q hq (room q hq))
+      cc (halves_first s k q hq (room q hq), taken_doubled G L k s (halved G H s (rise q)), surplus_exact s q hq (room q hq))
 
   -- the numerators over 2^s and those over 2^tops
   scaled : (y q : List ℕ) → IsIn q points → (x : Member) → doubled G (tops ax laws) (taken G (numerators ax q y) x) ≡ doubled G (exponents ax q) (taken G (fines ax laws q y) x)
   scaled y q hq x =
       let t = tops ax laws in
       let s = exponents ax q in
-      doubled_taken G L t _ ∙ sym (taken_mul G L (2 ^ t) (numerators ax q y) x)
-      ∙ ap (λ k. taken G k x) (mul_comm (2 ^ t) (numerators ax q y) ∙ sym (fines_numerators ax laws q y (given.grid.inside q hq)) ∙ mul_comm (fines ax laws q y) (2 ^ s))
-      ∙ taken_mul G L (2 ^ s) (fines ax laws q y) x ∙ sym (doubled_taken G L s _)
+      let n = numerators ax q y in
+      let m = fines ax laws q y in
+      cc (
+        doubled_taken G L t (taken G n x),
+        taken_mul G L (2 ^ t) n x,
+        mul_comm (2 ^ t) n,
+        fines_numerators ax laws q y (given.grid.inside q hq),
+        mul_comm m (2 ^ s),
+        taken_mul G L (2 ^ s) m x,
+        doubled_taken G L s (taken G m x),
+      )
 
   -- the value at a place is the sum of the hats
   value_is : Roomy exponents → (y : List ℕ) → doubled G (tops ax laws) (value G H ax points u y) ≡ spread G L H ax laws points rise y
@@ -101,8 +107,7 @@ module _ (G : Group) (L : Laws G) (H : Halving G) {ax : List Axis} {laws : AllLa
       let s = exponents ax q in
       let w = exponents_tops ax laws q (given.grid.inside q hq) in
       let i : d ≡ (d - s) + s = omega arith in
-      ap (λ k. doubled G k (taken G (fines ax laws q y) (c q))) i
-      ∙ doubled_add G L (d - s) s _ ∙ ap (doubled G (d - s)) (sym (scaled y q hq (c q))) ∙ doubled_comm G L (d - s) (tops ax laws) _
+      cc (doubled_add G L (d - s) s (taken G (fines ax laws q y) (c q)), scaled y q hq (c q), doubled_comm G L (d - s) (tops ax laws) (taken G (numerators ax q y) (c q)))
 
   pub meet : Roomy exponents → (d : ℕ) → tops ax laws ≤ d → Meets G ax d points u rise
   unfolding spread
@@ -134,16 +139,14 @@ module _ (G : Group) (L : Laws G) (H : Halving G) {ax : List Axis} {laws : AllLa
 
   -- what the point q brings to the integral
   mass : (q : List ℕ) → IsIn q points → scales ax q + steps ax q ≤ e
-      → doubled G (tops ax laws) (doubled G (units ax laws) (halved G H (scales ax q) (rise q))) ≡ taken G (sum_ℕ (places ax) (weigh ax laws q)) (rise q)
+      → doubled G (tops ax laws) (doubled G (units ax laws) (halved G H (scales ax q) (rise q))) ≡ taken G (sum_by (weigh ax laws q) (places ax)) (rise q)
   mass q hq le =
-      let w = sum_ℕ (places ax) (weigh ax laws q) in
+      let w = sum_by (weigh ax laws q) (places ax) in
       let s = scales ax q in
       let t = tops ax laws in
       let n = units ax laws in
       let x = halved G H s (rise q) in
-      sym (doubled_add G L t n x) ∙ doubled_taken G L (t + n) x
-      ∙ ap (λ k. taken G k x) (sym (places_sum ax laws q (given.grid.inside q hq)))
-      ∙ taken_mul G L w (2 ^ s) x ∙ ap (taken G w) (sym (doubled_taken G L s x) ∙ surplus_exact s q hq le)
+      cc (doubled_add G L t n x, doubled_taken G L (t + n) x, places_sum ax laws q (given.grid.inside q hq), taken_mul G L w (2 ^ s) x, doubled_taken G L s x, surplus_exact s q hq le)
 
   -- the value at a place, as the hats of all points there
   weighed : Roomy exponents → (y : List ℕ)

@@ -1,5 +1,8 @@
 -- Membership in lists, and lists without repeats.
-use Rattle.std.proofs.Common.{◌≡◌, suc, ◌+◌, ◌*◌, ◌⊎◌, List, [], ◌∷◌, ◌++◌, map, length, sym, refl, ap, ◌∙◌, subst, ap₂, inl, inr, suc-mul, add_comm, zero-mul, length-append}
+use Rattle.std.proofs.Common.{◌≡◌, ◌*◌, Bool, true, false, ◌⊎◌, List, [], ◌∷◌, ◌++◌, map, length, sym, refl, ap, ◌∙◌, subst, inl, inr, suc-mul, zero-mul, length-append, arith}
+use Rattle.std.specs.List.{list_all, list_any}
+use Rattle.std.proofs.lemmas.Bool.{both_ways, and_parts, or_left, or_right, false_from_ne_true}
+use Rattle.std.proofs.lemmas.List.{length-map}
 use Rattle.basis.specs.Lists.{IsIn, AllDistinct, before}
 
 module _ {X : Type 0} where
@@ -35,16 +38,13 @@ module _ {X Y : Type 0} (g : X → Y) where
   map_listed y (x ∷ xs) (inl e) = (x, inl refl, e)
   map_listed y (x ∷ xs) (inr h) = let w = map_listed y xs h in (w.0, inr w.1, w.2)
 
-  pub distinct_map : ((a b : X) → g a ≡ g b → a ≡ b) → (xs : List X) → AllDistinct xs → AllDistinct (map g xs)
-  distinct_map inj [] d = tt
-  distinct_map inj (x ∷ xs) d = (
-    (λ h. let w = map_listed (g x) xs h in d.0 (subst (λ z. IsIn z xs) (sym (inj x w.0 w.2)) w.1)),
-    distinct_map inj xs d.1,
+  -- a map that keeps the elements apart repeats nothing
+  pub distinct_map : (xs : List X) → ((a b : X) → IsIn a xs → IsIn b xs → g a ≡ g b → a ≡ b) → AllDistinct xs → AllDistinct (map g xs)
+  distinct_map [] apart d = tt
+  distinct_map (x ∷ xs) apart d = (
+    (λ h. let w = map_listed (g x) xs h in d.0 (subst (λ z. IsIn z xs) (sym (apart x w.0 (inl refl) (inr w.1) w.2)) w.1)),
+    distinct_map xs (λ a b h k. apart a b (inr h) (inr k)) d.1,
   )
-
-  pub length_map : (xs : List X) → length (map g xs) ≡ length xs
-  length_map [] = refl
-  length_map (x ∷ xs) = ap suc (length_map xs)
 
 -- elements before lists
 module _ {X : Type 0} where
@@ -58,18 +58,16 @@ module _ {X : Type 0} where
   pub listed_before : (ts : List X) (xs : List X) (yss : List (List X)) → IsIn ts (before xs yss) → (x : X) × (ys : List X) × IsIn x xs × IsIn ys yss × (ts ≡ x ∷ ys)
   unfolding before
   listed_before ts [] yss h = absurd h
-  listed_before ts (z ∷ xs) yss h = go (listed_split ts (map (λ t. z ∷ t) yss) (before xs yss) h) (listed_before ts xs yss)
-    where
-      go : IsIn ts (map (λ t. z ∷ t) yss) ⊎ IsIn ts (before xs yss) → (IsIn ts (before xs yss) → (x : X) × (ys : List X) × IsIn x xs × IsIn ys yss × (ts ≡ x ∷ ys))
-          → (x : X) × (ys : List X) × IsIn x (z ∷ xs) × IsIn ys yss × (ts ≡ x ∷ ys)
-      go (inl m) ih = let w = map_listed (λ t. z ∷ t) ts yss m in (z, w.0, inl refl, w.1, w.2)
-      go (inr m) ih = let w = ih m in (w.0, w.1, inr w.2, w.3, w.4)
+  listed_before ts (z ∷ xs) yss h = elim (listed_split ts (map (λ t. z ∷ t) yss) (before xs yss) h) [
+    | inl m ↦ let w = map_listed (λ t. z ∷ t) ts yss m in (z, w.0, inl refl, w.1, w.2)
+    | inr m ↦ let w = listed_before ts xs yss m in (w.0, w.1, inr w.2, w.3, w.4)
+  ]
 
   pub before_distinct : (xs : List X) (yss : List (List X)) → AllDistinct xs → AllDistinct yss → AllDistinct (before xs yss)
   unfolding before
   before_distinct [] yss d e = tt
   before_distinct (z ∷ xs) yss d e =
-      distinct_append (map (λ t. z ∷ t) yss) (before xs yss) (distinct_map (λ t. z ∷ t) (λ a b q. cc) yss e) (before_distinct xs yss d.1 e)
+      distinct_append (map (λ t. z ∷ t) yss) (before xs yss) (distinct_map (λ t. z ∷ t) yss (λ a b h k q. cc) e) (before_distinct xs yss d.1 e)
       (λ ts m h.
       let w = map_listed (λ t. z ∷ t) ts yss m in
       let v = listed_before ts xs yss h in
@@ -80,7 +78,19 @@ module _ {X : Type 0} where
   unfolding before
   before_length [] yss = sym (zero-mul (length yss))
   before_length (z ∷ xs) yss =
-      length-append (map (λ t. z ∷ t) yss) (before xs yss)
-      ∙ ap₂ ◌+◌ (length_map (λ (t : List X). z ∷ t) yss) (before_length xs yss)
-      ∙ add_comm (length yss) (length xs * length yss)
-      ∙ sym (suc-mul (length xs) (length yss))
+      omega (arith, length-append (map (λ t. z ∷ t) yss) (before xs yss), length-map yss (λ (t : List X). z ∷ t), before_length xs yss, suc-mul (length xs) (length yss))
+
+-- what passes everywhere passes at each element
+pub every_listed : {X : Type 0} (f : X → Bool) (xs : List X) → list_all f xs ≡ true → (x : X) → IsIn x xs → f x ≡ true
+every_listed f [] t x h = absurd h
+every_listed f (y ∷ ys) t x (inl e) = ap f e ∙ (and_parts (f y) (list_all f ys) t).0
+every_listed f (y ∷ ys) t x (inr h) = every_listed f ys (and_parts (f y) (list_all f ys) t).1 x h
+
+-- what passes at an element passes somewhere
+pub any_has : {X : Type 0} (f : X → Bool) (xs : List X) (x : X) → IsIn x xs → f x ≡ true → list_any f xs ≡ true
+any_has f [] x h e = absurd h
+any_has f (y ∷ ys) x (inl q) e = or_left (f y) (list_any f ys) (ap f (sym q) ∙ e)
+any_has f (y ∷ ys) x (inr h) e = or_right (f y) (list_any f ys) (any_has f ys x h e)
+
+pub any_none : {X : Type 0} (f : X → Bool) (xs : List X) → list_any f xs ≡ false → (x : X) → IsIn x xs → f x ≡ false
+any_none f xs e x h = false_from_ne_true (f x) (λ t. both_ways (list_any f xs) e (any_has f xs x h t))

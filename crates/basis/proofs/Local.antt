@@ -1,5 +1,5 @@
 -- A surplus reads the places of its stencil alone, so order and other points do not matter.
-use Rattle.std.proofs.Common.{◌≡◌, ℕ, List, [], ◌∷◌, Some, None, Option, refl, ap, ◌∙◌, subst, inl, inr, arith}
+use Rattle.std.proofs.Common.{◌≡◌, ℕ, List, [], ◌∷◌, Some, None, Option, refl, ap, ◌∙◌, subst, inl, inr}
 use Rattle.std.specs.Option.{option_map, option_zip}
 use Rattle.kinds.specs.Group.{Group, Laws}
 use Rattle.kinds.specs.Halving.{Halving}
@@ -17,10 +17,6 @@ use Rattle.basis.proofs.Closure.{closed_near, grid_near}
 use Rattle.basis.proofs.Sets.{same_sum}
 use Rattle.basis.proofs.Directions.{lawful}
 
--- a way that meets the border leads nowhere
-no_way : {X Z : Type 0} {x : X} → None ≡ Some x → Z
-no_way e = let z : ◌≡◌ {A = ℕ} 0 1 = cc in absurd (omega arith)
-
 -- the first step of a way that stays near
 near_next : (a : Axis) (ax : List Axis) (P : List ℕ → Type 0) (k : ℕ) (ks : List ℕ) → Near (a ∷ ax) P (k ∷ ks) → (m : Move) (j : ℕ) → next a k m ≡ Some j → Near ax (λ q. P (j ∷ q)) ks
 near_next a ax P k ks n stay j e = let i : k ≡ j = cc in subst (λ b. Near ax (λ q. P (b ∷ q)) ks) i n.0
@@ -31,17 +27,17 @@ near_next a ax P k ks n go_right j e = n.1 j (inr e)
 near_reached : (ax : List Axis) (P : List ℕ → Type 0) (p : List ℕ) → Near ax P p → (w : List Move) (y : List ℕ) → reached ax p w ≡ Some y → P y
 unfolding reached
 near_reached [] P [] n [] y e = let i : [] ≡ y = cc in subst P i n
-near_reached [] P [] n (m ∷ w) y e = no_way e
-near_reached [] P (k ∷ ks) n w y e = no_way e
-near_reached (a ∷ ax) P [] n w y e = no_way e
-near_reached (a ∷ ax) P (k ∷ ks) n [] y e = no_way e
+near_reached [] P [] n (m ∷ w) y e = cc
+near_reached [] P (k ∷ ks) n w y e = cc
+near_reached (a ∷ ax) P [] n w y e = cc
+near_reached (a ∷ ax) P (k ∷ ks) n [] y e = cc
 near_reached (a ∷ ax) P (k ∷ ks) n (m ∷ w) y e =
     go (next a k m) (reached ax ks w) (λ j q s t. near_reached ax (λ r. P (j ∷ r)) ks (near_next a ax P k ks n m j s) w q t) refl refl e
   where
     go : (o : Option ℕ) (r : Option (List ℕ)) → ((j : ℕ) (q : List ℕ) → next a k m ≡ Some j → reached ax ks w ≡ Some q → P (j ∷ q))
         → next a k m ≡ o → reached ax ks w ≡ r → option_map (λ c. c.0 ∷ c.1) (option_zip o r) ≡ Some y → P y
-    go None r f s t v = no_way v
-    go (Some j) None f s t v = no_way v
+    go None r f s t v = cc
+    go (Some j) None f s t v = cc
     go (Some j) (Some q) f s t v = let i : j ∷ q ≡ y = cc in subst P i (f j q s t)
 
 module _ (G : Group) (L : Laws G) where

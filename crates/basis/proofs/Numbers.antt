@@ -2,7 +2,7 @@
 use Rattle.std.proofs.Common.{◌≡◌, ℕ, zero, suc, ◌+◌, ◌-◌, ◌<◌, ◌≤◌, Bool, true, ◌&&◌, eqb, List, [], ◌∷◌, ◌++◌, map, length, take, drop, Some, None, sum_by, Option, sym, refl, ap, ◌∙◌, ap₂, arith}
 use mathlib.Core.List.{map-map, map-append}
 use Rattle.std.specs.Option.{option_map, option_to_list}
-use Rattle.std.specs.List.{AllByRecursion}
+use Rattle.std.specs.List.{list_all, AllByRecursion}
 use Rattle.std.proofs.lemmas.List.Sums.{sum_by-cons}
 use Rattle.std.proofs.lemmas.Bool.{and_parts, and_from, eqb-true, eq-eqb}
 use Rattle.points.specs.Axis as coordinate
@@ -16,11 +16,11 @@ use Rattle.basis.proofs.Coordinates.{listed_inner, inner_listed, listed_zero, ze
 
 -- all are 0
 abbrev zeros : List ℕ → Bool
-zeros ks = numbers.every (λ k. eqb k 0) ks
+zeros ks = list_all (λ k. eqb k 0) ks
 
 -- used coordinates that are inner, and others that are 0
-shaped_inside : (d n : ℕ) (ks : List ℕ) → length ks ≡ d + n → numbers.every coordinate.inner (take d ks) ≡ true → zeros (drop d ks) ≡ true → Inside (directions d n) ks
-unfolding directions numbers.every
+shaped_inside : (d n : ℕ) (ks : List ℕ) → length ks ≡ d + n → list_all coordinate.inner (take d ks) ≡ true → zeros (drop d ks) ≡ true → Inside (directions d n) ks
+unfolding directions
 shaped_inside zero zero [] e t z = tt
 shaped_inside zero zero (k ∷ ks) e t z = absurd (omega arith)
 shaped_inside zero (suc n) [] e t z = absurd (omega arith)
@@ -29,41 +29,30 @@ shaped_inside zero (suc n) (k ∷ ks) e t z =
     (zero_listed k (eqb-true k 0 u.0), shaped_inside zero n ks (omega arith) t u.1)
 shaped_inside (suc d) n [] e t z = absurd (omega arith)
 shaped_inside (suc d) n (k ∷ ks) e t z =
-    let u = and_parts (coordinate.inner k) (numbers.every coordinate.inner (take d ks)) t in
+    let u = and_parts (coordinate.inner k) (list_all coordinate.inner (take d ks)) t in
     (inner_listed k u.0, shaped_inside d n ks (omega arith) u.1 z)
 
-inside_used : (d n : ℕ) (ks : List ℕ) → Inside (directions d n) ks → numbers.every coordinate.inner (take d ks) ≡ true
-unfolding directions numbers.every
-inside_used zero n ks i = refl
-inside_used (suc d) n [] i = absurd i
-inside_used (suc d) n (k ∷ ks) i = and_from (coordinate.inner k) _ (listed_inner k i.0) (inside_used d n ks i.1)
+-- what is known of coordinates of the axes
+record Shaped (d n : ℕ) (ks : List ℕ) : Type 0 where
+  used : list_all coordinate.inner (take d ks) ≡ true
+  unused : zeros (drop d ks) ≡ true
+  count : length ks ≡ d + n
+  bytes : AllByRecursion (λ k. k < 256) ks
 
-inside_unused : (d n : ℕ) (ks : List ℕ) → Inside (directions d n) ks → zeros (drop d ks) ≡ true
-unfolding directions numbers.every
-inside_unused zero zero [] i = refl
-inside_unused zero zero (k ∷ ks) i = absurd i
-inside_unused zero (suc n) [] i = absurd i
-inside_unused zero (suc n) (k ∷ ks) i = and_from (eqb k 0) _ (eq-eqb k 0 (listed_zero k i.0)) (inside_unused zero n ks i.1)
-inside_unused (suc d) n [] i = absurd i
-inside_unused (suc d) n (k ∷ ks) i = inside_unused d n ks i.1
-
-inside_length : (d n : ℕ) (ks : List ℕ) → Inside (directions d n) ks → length ks ≡ d + n
+inside_shaped : (d n : ℕ) (ks : List ℕ) → Inside (directions d n) ks → Shaped d n ks
 unfolding directions
-inside_length zero zero [] i = refl
-inside_length zero zero (k ∷ ks) i = absurd i
-inside_length zero (suc n) [] i = absurd i
-inside_length zero (suc n) (k ∷ ks) i = omega (arith, inside_length zero n ks i.1)
-inside_length (suc d) n [] i = absurd i
-inside_length (suc d) n (k ∷ ks) i = omega (arith, inside_length d n ks i.1)
-
-inside_bytes : (d n : ℕ) (ks : List ℕ) → Inside (directions d n) ks → AllByRecursion (λ k. k < 256) ks
-unfolding directions
-inside_bytes zero zero [] i = tt
-inside_bytes zero zero (k ∷ ks) i = absurd i
-inside_bytes zero (suc n) [] i = absurd i
-inside_bytes zero (suc n) (k ∷ ks) i = (omega (arith, listed_zero k i.0), inside_bytes zero n ks i.1)
-inside_bytes (suc d) n [] i = absurd i
-inside_bytes (suc d) n (k ∷ ks) i = (omega (arith, (inner_bounds k (listed_inner k i.0)).1), inside_bytes d n ks i.1)
+inside_shaped zero zero [] i = record { used = refl; unused = refl; count = refl; bytes = tt }
+inside_shaped zero zero (k ∷ ks) i = absurd i
+inside_shaped zero (suc n) [] i = absurd i
+inside_shaped zero (suc n) (k ∷ ks) i =
+    let w = inside_shaped zero n ks i.1 in
+    let z = listed_zero k i.0 in
+    record { used = refl; unused = and_from (eqb k 0) _ (eq-eqb k 0 z) w.unused; count = omega (arith, w.count); bytes = (omega (arith, z), w.bytes) }
+inside_shaped (suc d) n [] i = absurd i
+inside_shaped (suc d) n (k ∷ ks) i =
+    let w = inside_shaped d n ks i.1 in
+    let inner = listed_inner k i.0 in
+    record { used = and_from (coordinate.inner k) _ inner w.used; unused = w.unused; count = omega (arith, w.count); bytes = (omega (arith, (inner_bounds k inner).1), w.bytes) }
 
 -- f of each coordinate's parents in its place
 chain : (List ℕ → ℕ) → List ℕ → List ℕ
@@ -97,15 +86,11 @@ chain_parents : (p : ℕ) → chain numbers.number (numbers.coords p) ≡ number
 unfolding chain numbers.parents numbers.replaced numbers.coords
 chain_parents p = ap₂ ◌++◌ (in_place 0 p) (ap₂ ◌++◌ (in_place 1 p) (ap₂ ◌++◌ (in_place 2 p) (ap₂ ◌++◌ (in_place 3 p) refl)))
 
-four : (p : ℕ) → length (numbers.coords p) ≡ 4
-unfolding numbers.coords
-four p = refl
-
 point_inside : (d p : ℕ) → d ≤ 4 → numbers.is_point d p ≡ true → Inside (directions d (4 - d)) (numbers.coords p)
 unfolding numbers.is_point
 point_inside d p l e =
-    let u = and_parts (numbers.every coordinate.inner (take d (numbers.coords p))) _ e in
-    shaped_inside d (4 - d) (numbers.coords p) (omega (arith, four p)) u.0 u.1
+    let u = and_parts (list_all coordinate.inner (take d (numbers.coords p))) _ e in
+    shaped_inside d (4 - d) (numbers.coords p) (omega (arith, points.coords_length p)) u.0 u.1
 
 levels_used : (d n : ℕ) (ks : List ℕ) → length ks ≡ d + n → level_sum (directions d n) ks ≡ sum_by coordinate.level (take d ks)
 unfolding directions total zero_border trivial
@@ -119,11 +104,11 @@ pub numbers_agree : NumbersAgree
 unfolding numbers.is_point numbers.level_sum
 numbers_agree d l = record {
   inside = λ p e. point_inside d p l e;
-  is_point = λ q i. ap (λ ks. numbers.every coordinate.inner (take d ks) && zeros (drop d ks)) (coords_back q i) ∙ and_from _ _ (inside_used d (4 - d) q i) (inside_unused d (4 - d) q i);
+  is_point = λ q i. let w = inside_shaped d (4 - d) q i in ap (λ ks. list_all coordinate.inner (take d ks) && zeros (drop d ks)) (coords_back q i) ∙ and_from _ _ w.used w.unused;
   back = coords_back;
-  levels = λ p. levels_used d (4 - d) (numbers.coords p) (omega (arith, four p));
+  levels = λ p. levels_used d (4 - d) (numbers.coords p) (omega (arith, points.coords_length p));
   parents_of = λ p e. parents_chain d (4 - d) numbers.number (numbers.coords p) (point_inside d p l e) ∙ chain_parents p;
 }
   where
     coords_back : (q : List ℕ) → Inside (directions d (4 - d)) q → numbers.coords (numbers.number q) ≡ q
-    coords_back q i = (points.numbered).again q (omega (arith, inside_length d (4 - d) q i)) (inside_bytes d (4 - d) q i)
+    coords_back q i = let w = inside_shaped d (4 - d) q i in (points.numbered).again q (omega (arith, w.count)) w.bytes

@@ -1,5 +1,5 @@
 -- The parents of a point, direction by direction.
-use Rattle.std.proofs.Common.{◌≡◌, ℕ, zero, suc, ◌<◌, ◌⊎◌, List, [], ◌∷◌, map, length, get_or, set, sym, ap, ◌∙◌, subst, inl, inr, arith}
+use Rattle.std.proofs.Common.{◌≡◌, ℕ, zero, suc, ◌<◌, List, [], ◌∷◌, map, length, get_or, set, sym, ap, ◌∙◌, subst, inl, inr, arith}
 use Rattle.basis.specs.Lists.{IsIn}
 use Rattle.basis.specs.Axis.{Axis, trivial}
 use Rattle.basis.specs.Grid.{parents}
@@ -10,17 +10,12 @@ parents_only : (ax : List Axis) (p q : List ℕ) → IsIn q (parents ax p) → P
 unfolding parents
 parents_only [] p q h = absurd h
 parents_only (a ∷ ax) [] q h = absurd h
-parents_only (a ∷ ax) (k ∷ ks) q h = go (listed_split q (map (λ j. j ∷ ks) (a.parents k)) (map (λ r. k ∷ r) (parents ax ks)) h) (parents_only ax ks)
-  where
-    go : IsIn q (map (λ j. j ∷ ks) (a.parents k)) ⊎ IsIn q (map (λ r. k ∷ r) (parents ax ks)) → ((r : List ℕ) → IsIn r (parents ax ks) → ParentInDirection ax ks r)
-        → ParentInDirection (a ∷ ax) (k ∷ ks) q
-    go (inl m) ih =
-        let w = map_listed (λ j. j ∷ ks) q (a.parents k) m in
-        record { direction = 0; within = omega arith; coord = w.0; is_parent = w.1; replaced = w.2 }
-    go (inr m) ih =
-        let w = map_listed (λ r. k ∷ r) q (parents ax ks) m in
-        let v = ih w.0 w.1 in
-        record { direction = suc v.direction; within = omega (arith, v.within); coord = v.coord; is_parent = v.is_parent; replaced = w.2 ∙ ap (λ r. k ∷ r) v.replaced }
+parents_only (a ∷ ax) (k ∷ ks) q h = elim (listed_split q (map (λ j. j ∷ ks) (a.parents k)) (map (λ r. k ∷ r) (parents ax ks)) h) [
+  | inl m ↦ let w = map_listed (λ j. j ∷ ks) q (a.parents k) m in record { direction = 0; within = omega arith; coord = w.0; is_parent = w.1; replaced = w.2 }
+  | inr m ↦ let w = map_listed (λ r. k ∷ r) q (parents ax ks) m in
+      let v = parents_only ax ks w.0 w.1 in
+      record { direction = suc v.direction; within = omega (arith, v.within); coord = v.coord; is_parent = v.is_parent; replaced = w.2 ∙ ap (λ r. k ∷ r) v.replaced }
+]
 
 parents_all : (ax : List Axis) (p : List ℕ) → length p ≡ length ax → (i j : ℕ) → i < length ax → IsIn j ((get_or ax i trivial).parents (get_or p i 0)) → IsIn (set p i j) (parents ax p)
 unfolding parents

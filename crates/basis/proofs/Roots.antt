@@ -67,11 +67,16 @@ module _ (G : Group) (L : Laws G) (H : Halving G) where
       → doubled G (length ax) (surplus G H ax u p) ≡ stencil G L ax u p
   surplus_stencil ax e u m p l i n =
       let r = e - length ax in
-      ap (doubled G (length ax)) (by_directions G L H ax u p ∙ after_stencil ax 0 r e u m p (omega arith) i n ∙ signed_zero G L _)
-      ∙ sym (doubled_add G L (length ax) r (stencil G L ax m p))
-      ∙ ap (λ k. doubled G k (stencil G L ax m p)) (omega arith)
-      ∙ sym (stencil_hom G L (doubled G e) (doubled_hom G L e) ax m p)
-      ∙ sym (stencil_near G L ax u (λ q. doubled G e (m q)) p n)
+      let z = stencil G L ax m p in
+      let all : length ax + r ≡ e = omega arith in
+      cc (
+        by_directions G L H ax u p,
+        after_stencil ax 0 r e u m p (omega arith) i n,
+        signed_zero G L (doubled G r z),
+        doubled_add G L (length ax) r z,
+        stencil_hom G L (doubled G e) (doubled_hom G L e) ax m p,
+        stencil_near G L ax u (λ q. doubled G e (m q)) p n,
+      )
 
   -- The surplus is some member doubled once less for each direction in which there is a neighbour.
   after_root : (ax : List Axis) (j r e : ℕ) (u m : List ℕ → Member) (p : List ℕ) → e ≡ r + (j + steps ax p) → Near ax (λ q. u q ≡ doubled G e (m q)) p

@@ -68,15 +68,13 @@ module _ (G : Group) (L : Laws G) where
   mix_3 p q r = ap₂ (λ t v. (t ⊕ t) ⊕ ⊖ v) p (ap₂ ◌⊕◌ q r)
 
   mix_plus : (x l r y m s : Member) → mix (x ⊕ y) (l ⊕ m) (r ⊕ s) ≡ mix x l r ⊕ mix y m s
-  mix_plus x l r y m s =
-      ap₂ ◌⊕◌ (middle G L x y x y) (ap ⊖ (middle G L l m r s) ∙ minus_hom G L (l ⊕ r) (m ⊕ s))
-      ∙ middle G L (x ⊕ x) (y ⊕ y) (⊖ (l ⊕ r)) (⊖ (m ⊕ s))
+  mix_plus x l r y m s = cc (middle G L x y x y, middle G L l m r s, minus_hom G L (l ⊕ r) (m ⊕ s), middle G L (x ⊕ x) (y ⊕ y) (⊖ (l ⊕ r)) (⊖ (m ⊕ s)))
 
   pub mix_hom : (φ : Member → Member) → Hom G L φ → (x l r : Member) → mix (φ x) (φ l) (φ r) ≡ φ (mix x l r)
-  mix_hom φ h x l r = sym (h (x ⊕ x) (⊖ (l ⊕ r)) ∙ ap₂ ◌⊕◌ (h x x) (hom_minus G L φ h (l ⊕ r) ∙ ap ⊖ (h l r)))
+  mix_hom φ h x l r = cc (h (x ⊕ x) (⊖ (l ⊕ r)), h x x, hom_minus G L φ h (l ⊕ r), h l r)
 
   mix_none : (x : Member) → mix x 𝟎 𝟎 ≡ x ⊕ x
-  mix_none x = ap (λ t. (x ⊕ x) ⊕ t) (ap ⊖ (neutral G L 𝟎) ∙ minus_zero G L) ∙ right-neutral (x ⊕ x)
+  mix_none x = cc (neutral G L 𝟎, minus_zero G L, right-neutral (x ⊕ x))
 
   -- what stands at a neighbour, if there is one
   pub there_ext : (o : Option ℕ) (f g : ℕ → Member) → ((j : ℕ) → o ≡ Some j → f j ≡ g j) → there G o f ≡ there G o g

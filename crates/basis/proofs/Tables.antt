@@ -1,7 +1,8 @@
 -- Tables of samples: tests by which one is a sampled grid.
-use Rattle.std.proofs.Common.{◌≡◌, ℕ, zero, suc, ◌+◌, ◌≤◌, Bool, true, false, not, ◌&&◌, ◌||◌, eqb, leb, ◌⊎◌, List, [], ◌∷◌, pos, refl, ap, ◌∙◌, subst, inl, inr, arith}
+use Rattle.std.proofs.Common.{◌≡◌, ℕ, zero, suc, ◌+◌, ◌≤◌, Bool, true, false, not, ◌&&◌, eqb, leb, List, [], ◌∷◌, pos, refl, inl, inr, arith}
+use Rattle.std.specs.List.{list_all, list_any}
 use Rattle.std.proofs.lemmas.Int.{ints}
-use Rattle.std.proofs.lemmas.Bool.{and_parts, and_from, or_cases, leb-true, or_left, or_right, not-true, both_ways, cond_both, eqb-true, eq-eqb}
+use Rattle.std.proofs.lemmas.Bool.{and_parts, and_from, or_cases, leb-true, not-true, both_ways, cond_both, eqb-true, eq-eqb}
 use Rattle.kinds.specs.Halving.{Fits}
 use Rattle.kinds.specs.Integers.{integers}
 use Rattle.kinds.specs.Numbers.{InRange}
@@ -13,13 +14,14 @@ use Rattle.basis.specs.Grid.{Inside, level_sum, parents}
 use Rattle.basis.specs.Laws.{Sampled, Shallow}
 use Rattle.basis.specs.Examples.{Sample, points_of, same, sample_of}
 use Rattle.basis.proofs.Coordinates.{inner_listed}
+use Rattle.basis.proofs.Lists.{every_listed, any_has}
 
 -- points told by a test
 same_sound : (p q : List ℕ) → same p q ≡ true → p ≡ q
 unfolding same
 same_sound [] [] t = refl
-same_sound [] (j ∷ js) t = absurd (both_ways false refl t)
-same_sound (k ∷ ks) [] t = absurd (both_ways false refl t)
+same_sound [] (j ∷ js) t = cc
+same_sound (k ∷ ks) [] t = cc
 same_sound (k ∷ ks) (j ∷ js) t = let u = and_parts (eqb k j) (same ks js) t in let e = eqb-true k j u.0 in let f = same_sound ks js u.1 in cc
 
 same_refl : (p : List ℕ) → same p p ≡ true
@@ -28,24 +30,15 @@ same_refl [] = refl
 same_refl (k ∷ ks) = and_from (eqb k k) (same ks ks) (eq-eqb k k refl) (same_refl ks)
 
 -- p stands in the list
-unfoldable pub among : List ℕ → List (List ℕ) → Bool
-among p [] = false
-among p (q ∷ qs) = same p q || among p qs
+abbrev pub among : List ℕ → List (List ℕ) → Bool
+among p qs = list_any (same p) qs
 
 pub among_listed : (p : List ℕ) (qs : List (List ℕ)) → among p qs ≡ true → IsIn p qs
-unfolding among
-among_listed p [] t = absurd (both_ways false refl t)
-among_listed p (q ∷ qs) t = go (or_cases (same p q) (among p qs) t) (among_listed p qs)
-  where
-    go : (same p q ≡ true) ⊎ (among p qs ≡ true) → (among p qs ≡ true → IsIn p qs) → (p ≡ q) ⊎ IsIn p qs
-    go (inl u) f = inl (same_sound p q u)
-    go (inr u) f = inr (f u)
+among_listed p [] t = cc
+among_listed p (q ∷ qs) t = elim (or_cases (same p q) (among p qs) t) [ inl u ↦ inl (same_sound p q u) | inr u ↦ inr (among_listed p qs u) ]
 
 listed_among : (p : List ℕ) (qs : List (List ℕ)) → IsIn p qs → among p qs ≡ true
-unfolding among
-listed_among p [] h = absurd h
-listed_among p (q ∷ qs) (inl e) = or_left (same p q) (among p qs) (subst (λ r. same p r ≡ true) e (same_refl p))
-listed_among p (q ∷ qs) (inr h) = or_right (same p q) (among p qs) (listed_among p qs h)
+listed_among p qs h = any_has (same p) qs p h (same_refl p)
 
 -- no point stands twice
 unfoldable pub once : List (List ℕ) → Bool
@@ -59,17 +52,6 @@ once_distinct (p ∷ ps) t =
     let u = and_parts (not (among p ps)) (once ps) t in
     ((λ h. both_ways (among p ps) (not-true (among p ps) u.0) (listed_among p ps h)), once_distinct ps u.1)
 
--- f passes at each
-unfoldable pub every : (List ℕ → Bool) → List (List ℕ) → Bool
-every f [] = true
-every f (p ∷ ps) = f p && every f ps
-
-every_listed : (f : List ℕ → Bool) (ps : List (List ℕ)) → every f ps ≡ true → (p : List ℕ) → IsIn p ps → f p ≡ true
-unfolding every
-every_listed f [] t p h = absurd h
-every_listed f (q ∷ ps) t p (inl e) = ap f e ∙ (and_parts (f q) (every f ps) t).0
-every_listed f (q ∷ ps) t p (inr h) = every_listed f ps (and_parts (f q) (every f ps) t).1 p h
-
 -- d inner coordinates
 unfoldable pub inner_at : ℕ → List ℕ → Bool
 inner_at zero [] = true
@@ -80,8 +62,8 @@ inner_at (suc d) (k ∷ ks) = coordinate.inner k && inner_at d ks
 inner_inside : (d : ℕ) (p : List ℕ) → inner_at d p ≡ true → Inside (axes d) p
 unfolding inner_at directions
 inner_inside zero [] t = tt
-inner_inside zero (k ∷ ks) t = absurd (both_ways false refl t)
-inner_inside (suc d) [] t = absurd (both_ways false refl t)
+inner_inside zero (k ∷ ks) t = cc
+inner_inside (suc d) [] t = cc
 inner_inside (suc d) (k ∷ ks) t =
     let u = and_parts (coordinate.inner k) (inner_at d ks) t in
     (inner_listed k u.0, inner_inside d ks u.1)
@@ -100,9 +82,9 @@ sample_fits (s ∷ ss) r p = cond_both (same s.point p) _ _ (Fits integers) (λ 
 module _ (d : ℕ) (ss : List Sample) (most : d + 0 ≤ 4) (ranged : Ranged ss) where
   -- the parents of p are in the table
   abbrev pub closed_at : List ℕ → Bool
-  closed_at p = every (λ q. among q (points_of ss)) (parents (axes d) p)
+  closed_at p = list_all (λ q. among q (points_of ss)) (parents (axes d) p)
 
-  pub sampled : once (points_of ss) ≡ true → every (inner_at d) (points_of ss) ≡ true → every closed_at (points_of ss) ≡ true → Sampled integers d 0 (points_of ss) (sample_of ss)
+  pub sampled : once (points_of ss) ≡ true → list_all (inner_at d) (points_of ss) ≡ true → list_all closed_at (points_of ss) ≡ true → Sampled integers d 0 (points_of ss) (sample_of ss)
   sampled t u v = record {
     most = most;
     grid = record {
@@ -113,5 +95,5 @@ module _ (d : ℕ) (ss : List Sample) (most : d + 0 ≤ 4) (ranged : Ranged ss) 
     fit = λ p h. sample_fits ss ranged p;
   }
 
-  pub shallow : every (λ p. leb (level_sum (axes d) p) 16) (points_of ss) ≡ true → Shallow d 0 (points_of ss)
+  pub shallow : list_all (λ p. leb (level_sum (axes d) p) 16) (points_of ss) ≡ true → Shallow d 0 (points_of ss)
   shallow t p h = leb-true (level_sum (axes d) p) 16 (every_listed (λ q. leb (level_sum (axes d) q) 16) (points_of ss) t p h)

@@ -16,7 +16,7 @@ use Rattle.basis.specs.Surplus.{ways, moves, reached, added, surplus}
 use Rattle.basis.specs.Interpolant.{value, integral}
 use Rattle.basis.specs.Laws.{SameAnswers}
 use Rattle.basis.specs.Examples.{points_of, same, sample_of, line, square, WorkedLine, WorkedSquare, WorkedGrids}
-use Rattle.basis.proofs.Tables.{among, once, every, inner_at, Ranged, among_listed, sampled, shallow}
+use Rattle.basis.proofs.Tables.{once, inner_at, Ranged, among_listed, sampled, shallow}
 use Rattle.basis.proofs.Theorems.{halving_free}
 
 -- a halving that computes
@@ -52,19 +52,19 @@ square_ranged = (range 16 (lit≤ tt), (range 10 (lit≤ tt), (range 9 (lit≤ t
 
 -- the answers are those of the halving that computes
 line_same : (H : Halving integers) → SameAnswers integers (axes 1) H by_quotient (points_of line) (points_of line) (sample_of line) (sample_of line)
-unfolding once every among same inner_at line points_of parents total directions zero_border coordinate.parent coordinate.left coordinate.right coordinate.level coordinate.width coordinate.zeros count_trailing_zeros
+unfolding once same inner_at line points_of parents total directions zero_border coordinate.parent coordinate.left coordinate.right coordinate.level coordinate.width coordinate.zeros count_trailing_zeros
 line_same H =
     halving_free integers integer_laws H by_quotient 1 0 (points_of line) (sample_of line) (sampled 1 line (lit≤ tt) line_ranged refl refl refl)
     (shallow 1 line (lit≤ tt) line_ranged refl)
 
 square_same : (H : Halving integers) → SameAnswers integers (axes 2) H by_quotient (points_of square) (points_of square) (sample_of square) (sample_of square)
-unfolding once every among same inner_at square points_of parents total directions zero_border coordinate.parent coordinate.left coordinate.right coordinate.level coordinate.width coordinate.zeros count_trailing_zeros
+unfolding once same inner_at square points_of parents total directions zero_border coordinate.parent coordinate.left coordinate.right coordinate.level coordinate.width coordinate.zeros count_trailing_zeros
 square_same H =
     halving_free integers integer_laws H by_quotient 2 0 (points_of square) (sample_of square) (sampled 2 square (lit≤ tt) square_ranged refl refl refl)
     (shallow 2 square (lit≤ tt) square_ranged refl)
 
 line_worked : (H : Halving integers) → WorkedLine H
-unfolding half by_quotient among same line points_of sample_of surplus ways choices before moves reached added signed halved taken sum_over value integral total numerators directions zero_border coordinate.left coordinate.right coordinate.level coordinate.width coordinate.zeros count_trailing_zeros
+unfolding half by_quotient same line points_of sample_of surplus ways choices before moves reached added signed halved taken sum_over value integral total numerators directions zero_border coordinate.left coordinate.right coordinate.level coordinate.width coordinate.zeros count_trailing_zeros
 line_worked H =
     let s = line_same H in
     record {
@@ -79,7 +79,7 @@ line_worked H =
     }
 
 square_worked : (H : Halving integers) → WorkedSquare H
-unfolding half by_quotient among same square points_of sample_of surplus ways choices before moves reached added signed halved taken sum_over value integral total numerators directions zero_border coordinate.left coordinate.right coordinate.level coordinate.width coordinate.zeros count_trailing_zeros
+unfolding half by_quotient same square points_of sample_of surplus ways choices before moves reached added signed halved taken sum_over value integral total numerators directions zero_border coordinate.left coordinate.right coordinate.level coordinate.width coordinate.zeros count_trailing_zeros
 square_worked H =
     let s = square_same H in
     record {

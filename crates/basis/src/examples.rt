@@ -2,8 +2,6 @@
 ghost use Rattle.basis.specs.Examples.{WorkedGrids};
 
 /// Holds by its contract: the surpluses, values and integrals of two grids.
-pub fn worked_grids() -> u8
+pub fn worked_grids()
     ensures { WorkedGrids }
-{
-    0
-}
+{}

@@ -5,64 +5,46 @@ ghost use Rattle.basis.specs.Recursion.{ByDirections};
 use kinds::kind::Kind;
 
 /// At each point in, the value is its sample.
-pub fn samples_are_reconstructed<K: Kind>() -> u8
+pub fn samples_are_reconstructed<K: Kind>()
     ensures { Reconstruction K.Kind.group }
-{
-    0
-}
+{}
 
 /// The surpluses, as coefficients, meet all samples.
-pub fn surpluses_meet_the_samples<K: Kind>() -> u8
+pub fn surpluses_meet_the_samples<K: Kind>()
     ensures { Existence K.Kind.group }
-{
-    0
-}
+{}
 
 /// Coefficients that meet all samples are the surpluses.
-pub fn surpluses_are_unique<K: Kind>() -> u8
+pub fn surpluses_are_unique<K: Kind>()
     ensures { Uniqueness K.Kind.group }
-{
-    0
-}
+{}
 
 /// The integral, doubled 7·d times, is the sum of the values at all inner places.
-pub fn integral_is_the_sum_of_values<K: Kind>() -> u8
+pub fn integral_is_the_sum_of_values<K: Kind>()
     ensures { Integration K.Kind.group }
-{
-    0
-}
+{}
 
 /// The surplus of a point depends only on samples of points that are in with it.
-pub fn surplus_is_local<K: Kind>() -> u8
+pub fn surplus_is_local<K: Kind>()
     ensures { Locality K.Kind.group }
-{
-    0
-}
+{}
 
 /// The order of the points changes no surplus, no value and not the integral.
-pub fn order_is_free<K: Kind>() -> u8
+pub fn order_is_free<K: Kind>()
     ensures { OrderFree K.Kind.group }
-{
-    0
-}
+{}
 
 /// What halving does off doubles changes nothing.
-pub fn halving_is_free<K: Kind>() -> u8
+pub fn halving_is_free<K: Kind>()
     ensures { HalvingFree K.Kind.group }
-{
-    0
-}
+{}
 
 /// Samples and surpluses can be halved as often as the interpolant asks.
-pub fn halvings_are_exact<K: Kind>() -> u8
+pub fn halvings_are_exact<K: Kind>()
     ensures { ExactHalves K.Kind.group }
-{
-    0
-}
+{}
 
 /// The surplus can be summed one direction after the other.
-pub fn surplus_goes_by_directions<K: Kind>() -> u8
+pub fn surplus_goes_by_directions<K: Kind>()
     ensures { ByDirections K.Kind.group }
-{
-    0
-}
+{}

@@ -25,10 +25,10 @@ pub fn check(
     ticket: u32,
 ) -> Result<Dims, Refusal>
     ensures refuses { refusal_of result ≡ first (make_causes dims places lookups number ticket) }
-    ensures counts { IfOk result (λ x. x.count ≡ dims) }
+    ensures counts { IfOk result (λ x. x ≡ dims) }
 {
     let dims = Dims::new(dims)?;
-    if places < 1 || places > MOST_PLACES || lookups < places {
+    if !(1..=MOST_PLACES).contains(&places) || lookups < places {
         return Err(Refusal::Memory);
     }
     if number == 0 || ticket == 0 {
@@ -46,12 +46,14 @@ impl<'g, 'm, K: Kind> Grid<'g, 'm, K> {
         ticket: u32,
         store: &'g mut Store<'m, Record<K>>,
     ) -> Grid<'g, 'm, K>
-        ensures dims { result.dims.count ≡ made_dims (first (make_causes dims (places store.old) (lookups store.old) number ticket)) dims }
-        ensures numbers { (result.number ≡ number) × (result.next_ticket ≡ ticket) }
+        ensures dims { result.dims ≡ made_dims (first (make_causes dims (places store.old) (lookups store.old) number ticket)) dims }
+        ensures number { result.number ≡ number }
+        ensures ticket { result.next_ticket ≡ ticket }
         ensures empty { items result.store.now ≡ [] }
         ensures room { capacity result.store.now ≡ made_room (first (make_causes dims (places store.old) (lookups store.old) number ticket)) (places store.old) }
     {
         let places = store.places();
+        // A grid comes of any figures.
         let (dims, room) = match check(dims, places, store.lookups(), number, ticket) {
             Ok(dims) => (dims, places),
             Err(_) => (Dims::one(), 0),

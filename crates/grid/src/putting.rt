@@ -7,7 +7,7 @@ use crate::record::{Entered, Record};
 use crate::surplus::Arrival;
 use kinds::kind::Kind;
 use points::dimensions::Dims;
-use points::point::{check_point, parent_in};
+use points::point::parent_in;
 use points::refusal::Refusal;
 use store::InsertFault;
 
@@ -30,14 +30,16 @@ impl<'g, 'm, K: Kind> Grid<'g, 'm, K> {
     pub fn clear(&mut self)
         ensures empty { items self.new.store.now ≡ [] }
         ensures room { capacity self.new.store.now ≡ capacity self.old.store.now }
-        ensures figures { (self.new.dims ≡ self.old.dims) × (self.new.number ≡ self.old.number) × (self.new.next_ticket ≡ self.old.next_ticket) }
+        ensures dims { self.new.dims ≡ self.old.dims }
+        ensures number { self.new.number ≡ self.old.number }
+        ensures ticket { self.new.next_ticket ≡ self.old.next_ticket }
     {
         self.store.clear()
     }
 
     /// Puts a point in, with the value of a whole number as its sample.
     pub fn put(&mut self, point: u32, sample: i32) -> Result<(), Refusal> {
-        check_point(self.dims, point)?;
+        self.dims.check_point(point)?;
         if self.holds(point) {
             return Err(Refusal::PointIn);
         }
@@ -47,25 +49,22 @@ impl<'g, 'm, K: Kind> Grid<'g, 'm, K> {
         if self.is_full() {
             return Err(Refusal::PlacesFull);
         }
-        let Some(sample) = K::whole(sample) else {
-            return Err(Refusal::Sample);
-        };
+        let sample = K::whole(sample).ok_or(Refusal::Sample)?;
         self.enter(point, sample)
     }
 
     // Puts a point in with its sample and its surplus.
     fn enter(&mut self, point: u32, sample: K) -> Result<(), Refusal> {
-        let Some(surplus) = self.surplus_of(Arrival { point, sample }) else {
-            return Err(Refusal::Sample);
-        };
-        match self
-            .store
+        let surplus = self
+            .surplus_of(Arrival { point, sample })
+            .ok_or(Refusal::Sample)?;
+        self.store
             .insert(point, Record::In(Entered { sample, surplus }))
-        {
-            Ok(()) => Ok(()),
-            Err(InsertFault::Known) => Err(Refusal::PointIn),
-            Err(InsertFault::Full) => Err(Refusal::PlacesFull),
-        }
+            // No `From`: both types are of other crates.
+            .map_err(|fault| match fault {
+                InsertFault::Known => Refusal::PointIn,
+                InsertFault::Full => Refusal::PlacesFull,
+            })
     }
 
     // Whether a point is in or out.
@@ -80,22 +79,8 @@ impl<'g, 'm, K: Kind> Grid<'g, 'm, K> {
 
     // Whether every parent of a point is in.
     fn has_parents(&self, point: u32) -> bool {
-        for direction in 0..4 {
-            if let Some(parent) = parent_in(direction, point) {
-                if !is_in(self.store.get(parent)) {
-                    return false;
-                }
-            }
-        }
-        true
-    }
-}
-
-// Whether a record is of a point in.
-fn is_in<K: Kind>(record: Option<Record<K>>) -> bool {
-    match record {
-        Some(Record::In(_)) => true,
-        Some(Record::Out(_)) => false,
-        None => false,
+        (0..4)
+            .filter_map(|direction| parent_in(direction, point))
+            .all(|parent| matches!(self.store.get(parent), Some(Record::In(_))))
     }
 }

@@ -4,29 +4,25 @@ use crate::record::Record;
 use hats::multiple::halved;
 use kinds::kind::Kind;
 use points::dimensions::Dims;
-use points::point::level_sum;
 
 impl<'g, 'm, K: Kind> Grid<'g, 'm, K> {
     /// How many points are in.
     pub fn count(&self) -> usize {
-        let mut count = 0;
-        for i in 0..self.store.len() {
-            if let Some((_, Record::In(_))) = self.store.at(i) {
-                count += 1;
-            }
-        }
-        count
+        self.store
+            .iter()
+            .filter(|(_, record)| matches!(record, Record::In(_)))
+            .count()
     }
 
     /// The integral over the unit cube.
     pub fn integral(&self) -> K {
+        // No question about an integral is refused.
         self.sum_of_parts().unwrap_or(K::zero())
     }
 
     fn sum_of_parts(&self) -> Option<K> {
         let mut sum = K::zero();
-        for i in 0..self.store.len() {
-            let (point, record) = self.store.at(i)?;
+        for (point, record) in self.store.iter() {
             sum = sum.sum(part(self.dims, point, record)?)?;
         }
         Some(sum)
@@ -36,7 +32,7 @@ impl<'g, 'm, K: Kind> Grid<'g, 'm, K> {
 // What one record adds to the integral: the surplus of a point in, halved as often as its level sum says.
 fn part<K: Kind>(dims: Dims, point: u32, record: Record<K>) -> Option<K> {
     match record {
-        Record::In(entered) => halved(entered.surplus, level_sum(dims, point)),
+        Record::In(entered) => halved(entered.surplus, dims.level_sum(point)),
         Record::Out(_) => Some(K::zero()),
     }
 }

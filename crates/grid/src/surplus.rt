@@ -5,23 +5,13 @@ use crate::grid::Grid;
 use crate::record::Record;
 use hats::multiple::halved;
 use kinds::kind::Kind;
-use points::axis::Coordinate;
-use points::point::{coordinates, number_of};
+use points::point::neighbours_in;
 
 /// A point that comes in, and its sample.
 #[derive(Clone, Copy)]
 pub(crate) struct Arrival<K> {
     pub(crate) point: u32,
     pub(crate) sample: K,
-}
-
-/// The sample of a record, where it is of a point in; else zero.
-fn sample_of<K: Kind>(record: Option<Record<K>>) -> K {
-    match record {
-        Some(Record::In(entered)) => entered.sample,
-        Some(Record::Out(_)) => K::zero(),
-        None => K::zero(),
-    }
 }
 
 /// What one way adds: the sample found, halved once for each direction moved, and negated if these are odd in number.
@@ -34,42 +24,29 @@ fn term<K: Kind>(sample: K, moves: u32) -> Option<K> {
     }
 }
 
-/// The place with another coordinate in a direction, unless that is on the border.
-fn beside(place: [u8; 4], direction: usize, k: u8) -> Option<[u8; 4]> {
-    let inner = Coordinate::new(k)?;
-    let mut moved = place;
-    if direction < moved.len() {
-        moved[direction] = inner.get();
-    }
-    Some(moved)
-}
-
 impl<'g, 'm, K: Kind> Grid<'g, 'm, K> {
     /// The sample of a point in, once the arrival is in too; zero for any other.
     fn sample_with(&self, arrival: Arrival<K>, point: u32) -> K {
         if point == arrival.point {
             return arrival.sample;
         }
-        sample_of(self.store.get(point))
+        match self.store.get(point) {
+            Some(Record::In(entered)) => entered.sample,
+            _ => K::zero(),
+        }
     }
 
     /// The sum of all ways to stay or to go to a neighbour in each direction from `direction` on, from a place that is so
     /// many moves away. A way that meets the border adds nothing.
-    fn ways(&self, arrival: Arrival<K>, direction: usize, place: [u8; 4], moves: u32) -> Option<K>
+    fn ways(&self, arrival: Arrival<K>, direction: usize, place: u32, moves: u32) -> Option<K>
         requires { moves ≤ direction }
     {
-        if direction >= usize::from(self.dims.count()) || direction >= 4 {
-            return term(self.sample_with(arrival, number_of(place)), moves);
+        if direction >= usize::from(self.dims.count()) {
+            return term(self.sample_with(arrival, place), moves);
         }
         let mut sum = self.ways(arrival, direction + 1, place, moves)?;
-        let Some(k) = Coordinate::new(place[direction]) else {
-            return Some(sum);
-        };
-        let (left, right) = k.neighbours();
-        if let Some(next) = beside(place, direction, left) {
-            sum = sum.sum(self.ways(arrival, direction + 1, next, moves + 1)?)?;
-        }
-        if let Some(next) = beside(place, direction, right) {
+        let (left, right) = neighbours_in(direction, place);
+        for next in [left, right].into_iter().flatten() {
             sum = sum.sum(self.ways(arrival, direction + 1, next, moves + 1)?)?;
         }
         Some(sum)
@@ -77,6 +54,6 @@ impl<'g, 'm, K: Kind> Grid<'g, 'm, K> {
 
     /// The surplus of a point that comes in, or nothing where the kind has no answer on the way.
     pub(crate) fn surplus_of(&self, arrival: Arrival<K>) -> Option<K> {
-        self.ways(arrival, 0, coordinates(arrival.point), 0)
+        self.ways(arrival, 0, arrival.point, 0)
     }
 }

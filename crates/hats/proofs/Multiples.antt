@@ -1,5 +1,5 @@
 -- Halves and multiples, as the code finds them.
-use Rattle.std.proofs.Common.{◌≡◌, ℕ, suc, ◌+◌, ◌-◌, ◌*◌, ◌/◌, ◌%◌, ◌^◌, ◌<◌, ◌≤◌, true, is_some, Some, None, Option, sym, refl, ap, ◌∙◌, subst, ap₂, lt_of_lt_of_le, mul-le-mul_right, suc-mul, add-mul, arith}
+use Rattle.std.proofs.Common.{◌≡◌, ℕ, suc, ◌+◌, ◌-◌, ◌*◌, ◌/◌, ◌%◌, ◌^◌, ◌<◌, ◌≤◌, true, is_some, Some, None, Option, sym, refl, ap, ◌∙◌, subst, lt_of_lt_of_le, mul-le-mul_right, suc-mul, add-mul, arith}
 use Rattle.kinds.specs.Group.{Group, Laws, twice, doubled}
 use Rattle.kinds.specs.Halving.{Halving}
 use Rattle.kinds.specs.Operations.{Sum}
@@ -15,10 +15,14 @@ module _ (G : Group) (L : Laws G) where
   pub half_of : (n : ℕ) (x z : Member) → doubled G n z ≡ x → HalfOf G n x z
   half_of n x z e = record { root = e; half = λ H. sym (halved_doubled G L H n z) ∙ ap (halved G H n) e }
 
-  -- one halving more
-  pub halved_more : (n : ℕ) (x y z : Member) → doubled G n y ≡ x → twice G z ≡ y → doubled G (n + 1) z ≡ x
+  pub doubled_none : (x : Member) → doubled G 0 x ≡ x
   unfolding doubled
-  halved_more n x y z e h = doubled_add G L n 1 z ∙ ap (doubled G n) h ∙ e
+  doubled_none x = refl
+
+  -- doubled once before the others
+  pub doubled_first : (n : ℕ) (z : Member) → doubled G (n + 1) z ≡ doubled G n (twice G z)
+  unfolding doubled
+  doubled_first n z = doubled_add G L n 1 z
 
   module _ (H : Halving G) where
     -- what cannot be halved once more cannot be halved more often
@@ -31,18 +35,14 @@ module _ (G : Group) (L : Laws G) where
 
   -- n times x from half as many, doubled
   pub taken_even : (n : ℕ) (x y z : Member) → y ≡ taken G (n / 2) x → z ≡ y ⊕ y → n % 2 ≡ 0 → z ≡ taken G n x
-  taken_even n x y z e f h =
-      let s : n / 2 + n / 2 ≡ n = omega arith in
-      f ∙ ap₂ ◌⊕◌ e e ∙ sym (taken_add G L (n / 2) (n / 2) x) ∙ ap (λ k. taken G k x) s
+  taken_even n x y z e f h = let s : n / 2 + n / 2 ≡ n = omega arith in cc (taken_add G L (n / 2) (n / 2) x)
 
   -- and one more
   taken_odd : (n : ℕ) (x y : Member) → y ≡ taken G (n / 2) x → (n % 2 ≡ 0 → ⊥) → (y ⊕ y) ⊕ x ≡ taken G n x
-  taken_odd n x y e h =
-      let s : n / 2 + n / 2 + 1 ≡ n = omega arith in
-      ap₂ ◌⊕◌ (ap₂ ◌⊕◌ e e ∙ sym (taken_add G L (n / 2) (n / 2) x)) (sym (taken_one G L x)) ∙ sym (taken_add G L (n / 2 + n / 2) 1 x) ∙ ap (λ k. taken G k x) s
+  taken_odd n x y e h = let s : n / 2 + n / 2 + 1 ≡ n = omega arith in cc (taken_add G L (n / 2) (n / 2) x, taken_one G L x, taken_add G L (n / 2 + n / 2) 1 x)
 
   -- fewer times is no larger
-  pub larger : (k n : ℕ) (x : Member) → k ≤ n → 2 ^ 60 < k * size x → 2 ^ 60 < n * size x
+  larger : (k n : ℕ) (x : Member) → k ≤ n → 2 ^ 60 < k * size x → 2 ^ 60 < n * size x
   larger k n x h l = lt_of_lt_of_le l (mul-le-mul_right (size x) h)
 
   -- the size of the double of half as many
@@ -62,12 +62,15 @@ module _ (G : Group) (L : Laws G) where
   odd_sum m n x half even (Some z) e f h s = s.1 ∙ ap (λ t. t ⊕ m x) f ∙ taken_odd n (m x) (m half) e h
 
   -- a multiple of a half is the half of the multiple
-  pub term_of : (H : Halving G) {X : Type 0} (m : X → Member) (n s : ℕ) (x part : X) (r : Option X) → HalfOf G s (m x) (m part) → Taken G m n part r → Term G m n s x r
+  term_of : (H : Halving G) {X : Type 0} (m : X → Member) (n s : ℕ) (x part : X) (r : Option X) → HalfOf G s (m x) (m part) → Taken G m n part r → Term G m n s x r
   term_of H m n s x part None h l = λ y e. subst (λ z. 2 ^ 60 < n * size z) (doubled_inj G L H s (m part) y (h.root ∙ sym e)) l
-  term_of H m n s x part (Some z) h e = λ K.
-      e ∙ sym (halved_doubled G L K s (taken G n (m part))) ∙ ap (halved G K s) (sym (taken_doubled G L n s (m part)) ∙ ap (taken G n) h.root)
+  term_of H m n s x part (Some z) h e = λ K. cc (e, halved_doubled G L K s (taken G n (m part)), taken_doubled G L n s (m part), h.root)
 
-  -- a proper term has an answer
-  pub term_answers : (H : Halving G) {X : Type 0} (m : X → Member) (n s : ℕ) (x : X) (r : Option X) → Term G m n s x r → Proper G n s (m x) → is_some r ≡ true
+  -- and a proper one has an answer
+  term_answers : (H : Halving G) {X : Type 0} (m : X → Member) (n s : ℕ) (x : X) (r : Option X) → Term G m n s x r → Proper G n s (m x) → is_some r ≡ true
   term_answers H m n s x None t p = absurd (omega (arith, t p.root p.rooted, size_share G L H n s (m x) p.root p.share p.rooted, p.small))
   term_answers H m n s x (Some z) t p = refl
+
+  pub term_is : (H : Halving G) {X : Type 0} (m : X → Member) (n s : ℕ) (x part : X) (r : Option X) → HalfOf G s (m x) (m part) → Taken G m n part r
+      → Term G m n s x r × (Proper G n s (m x) → is_some r ≡ true)
+  term_is H m n s x part r h t = let w = term_of H m n s x part r h t in (w, term_answers H m n s x r w)

@@ -1,7 +1,7 @@
 -- Sizes of multiples, sums and halves in a group, and of a surplus.
-use Rattle.std.proofs.Common.{◌≡◌, ℕ, zero, suc, ◌+◌, ◌-◌, ◌*◌, ◌%◌, ◌^◌, ◌≤◌, ◌⊎◌, List, [], ◌∷◌, length, Some, None, Option, sym, refl, ap, ◌∙◌, subst, inl, inr, le_trans, mul-le-mul_right, mul_assoc, suc-mul, mul-le-mul_left, mul-zero, mul-add, arith, pow_pos}
+use Rattle.std.proofs.Common.{◌≡◌, ℕ, zero, suc, ◌+◌, ◌-◌, ◌*◌, ◌%◌, ◌^◌, ◌≤◌, eqb, List, [], ◌∷◌, length, Some, None, Option, sym, refl, ap, ◌∙◌, subst, inl, inr, le_trans, mul-le-mul_right, mul_assoc, suc-mul, mul-le-mul_left, mul-zero, mul-add, arith, pow_pos}
 use native.Mathlib.Nat.{pow-succ'}
-use Rattle.std.proofs.lemmas.Bool.{cases_eq, eq-eqb, ne_eqb}
+use Rattle.std.proofs.lemmas.Bool.{cond_both}
 use Rattle.kinds.specs.Group.{Group, Laws, doubled}
 use Rattle.kinds.specs.Halving.{Halving}
 use Rattle.basis.specs.Lists.{IsIn}
@@ -36,11 +36,7 @@ module _ (G : Group) (L : Laws G) where
 
   pub size_signed : (n : ℕ) (x : Member) → size (signed G n x) ≡ size x
   unfolding signed
-  size_signed n x = go (cases_eq (n % 2) 1)
-    where
-      go : (n % 2 ≡ 1) ⊎ (n % 2 ≡ 1 → ⊥) → size (signed G n x) ≡ size x
-      go (inl e) = rw (eq-eqb (n % 2) 1 e) (size_minus x)
-      go (inr e) = rw (ne_eqb (n % 2) 1 e)
+  size_signed n x = cond_both (eqb (n % 2) 1) (⊖ x) x (λ z. size z ≡ size x) (λ e. size_minus x) (λ e. refl)
 
   module _ (H : Halving G) where
     -- doubling loses no size

@@ -4,8 +4,6 @@ ghost use Rattle.hats.specs.Bounds.{Bounded};
 use kinds::kind::Kind;
 
 /// Holds by its contract: surpluses, terms and sums stay small.
-pub fn sizes_are_bounded<K: Kind>() -> u8
+pub fn sizes_are_bounded<K: Kind>()
     ensures { Bounded K.Kind.group }
-{
-    0
-}
+{}

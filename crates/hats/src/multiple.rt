@@ -5,6 +5,7 @@ ghost use Rattle.hats.specs.Multiples.{Halved, Taken, Term, Proper};
 use kinds::kind::Kind;
 
 /// The value halved `times` times, if it is some member doubled so often.
+#[tactic(auto, using(crate::proofs::Multiples::half_of, crate::proofs::Multiples::doubled_first, crate::proofs::Multiples::doubled_none))]
 pub fn halved<K: Kind>(value: K, times: u32) -> Option<K>
     ensures { Halved K.Kind.group K.Kind.meaning times value result }
 {
@@ -16,6 +17,7 @@ pub fn halved<K: Kind>(value: K, times: u32) -> Option<K>
 }
 
 /// The value taken `times` times, by doubling.
+#[tactic(auto, using(basis::proofs::Algebra::taken_none, crate::proofs::Multiples::taken_even, crate::proofs::Multiples::double_large, crate::proofs::Multiples::odd_sum))]
 pub fn taken<K: Kind>(value: K, times: u64) -> Option<K>
     ensures { Taken K.Kind.group K.Kind.meaning times value result }
 {

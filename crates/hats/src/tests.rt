@@ -8,14 +8,6 @@ use points::dimensions::Dims;
 use points::point::number_of;
 use std::test::Fail;
 
-/// The count that an answer has, or a count that no test expects.
-fn count(x: Option<Dyadic>) -> i64 {
-    match x {
-        Some(x) => x.count,
-        None => 999,
-    }
-}
-
 #[test]
 fn hats_of_one_direction(rt: HostRuntime) -> Result<(), Fail> {
     let Some(k) = Coordinate::new(48) else {
@@ -45,12 +37,18 @@ fn hats_of_two_directions(rt: HostRuntime) -> Result<(), Fail> {
 #[test]
 fn halves_and_multiples(rt: HostRuntime) -> Result<(), Fail> {
     let limit = 1i64 << 60;
-    assert_eq!(rt; count(halved(Dyadic { count: -40 }, 3)), -5);
-    assert_eq!(rt; count(halved(Dyadic { count: -40 }, 4)), 999);
-    assert_eq!(rt; count(taken(Dyadic { count: 3 }, 13)), 39);
-    assert_eq!(rt; count(taken(Dyadic { count: 3 }, 0)), 0);
-    assert_eq!(rt; count(taken(Dyadic { count: limit / 4 }, 4)), limit);
-    assert_eq!(rt; count(taken(Dyadic { count: limit / 4 }, 5)), 999);
+    assert_eq!(rt;
+        halved(Dyadic { count: -40 }, 3),
+        Some(Dyadic { count: -5 })
+    );
+    assert_eq!(rt; halved(Dyadic { count: -40 }, 4), None);
+    assert_eq!(rt; taken(Dyadic { count: 3 }, 13), Some(Dyadic { count: 39 }));
+    assert_eq!(rt; taken(Dyadic { count: 3 }, 0), Some(Dyadic { count: 0 }));
+    assert_eq!(rt;
+        taken(Dyadic { count: limit / 4 }, 4),
+        Some(Dyadic { count: limit })
+    );
+    assert_eq!(rt; taken(Dyadic { count: limit / 4 }, 5), None);
     let Some(seven) = taken(
         Residue {
             bits: 2_147_483_646,
@@ -68,10 +66,15 @@ fn halves_and_multiples(rt: HostRuntime) -> Result<(), Fail> {
 #[test]
 fn terms_of_a_value(rt: HostRuntime) {
     let unit = 1i64 << 28;
-    assert_eq!(rt; count(term(Dyadic { count: 8 * unit }, 48, 6)), 6 * unit);
     assert_eq!(rt;
-        count(term(Dyadic { count: 3 * unit }, 16, 5)),
-        3 * unit / 2
+        term(Dyadic { count: 8 * unit }, 48, 6),
+        Some(Dyadic { count: 6 * unit })
     );
-    assert_eq!(rt; count(term(Dyadic { count: 24 }, 2, 4)), 999);
+    assert_eq!(rt;
+        term(Dyadic { count: 3 * unit }, 16, 5),
+        Some(Dyadic {
+            count: 3 * unit / 2
+        })
+    );
+    assert_eq!(rt; term(Dyadic { count: 24 }, 2, 4), None);
 }

@@ -1,6 +1,6 @@
 -- Two ledgers with the same points in and equal samples answer the same.
-use Rattle.std.proofs.Common.{◌≡◌, ℕ, Bool, true, false, not, ◌⊎◌, List, [], ◌∷◌, ◌++◌, filter, sym, refl, ap, ◌∙◌, inl, inr}
-use Rattle.std.proofs.lemmas.Bool.{both_ways, cases_Bool}
+use Rattle.std.proofs.Common.{◌≡◌, ℕ, Bool, false, not, List, [], ◌∷◌, ◌++◌, filter, sym, refl, ap, ◌∙◌, inl, inr}
+use Rattle.std.proofs.lemmas.Bool.{both_ways, cases_Bool, false_from_ne_true}
 use Rattle.kinds.specs.Group.{Group}
 use Rattle.kinds.specs.Halving.{Halving}
 use Rattle.points.specs.Points.{coords, number}
@@ -19,26 +19,20 @@ use Rattle.ledger.proofs.Known.{entered_in, in_entered}
 -- two ledgers with the same dimensions, points in and samples
 module _ (G : Group) (H : Halving G) (L K : Ledger G.Member) (alike : Alike L K (In L) (In K)) where
   same_in : (p : ℕ) → is_in (L.known p) ≡ is_in (K.known p)
-  same_in p = go (cases_Bool (is_in (L.known p))) (cases_Bool (is_in (K.known p)))
-    where
-      go : (is_in (L.known p) ≡ true) ⊎ (is_in (L.known p) ≡ false) → (is_in (K.known p) ≡ true) ⊎ (is_in (K.known p) ≡ false) → is_in (L.known p) ≡ is_in (K.known p)
-      go (inl a) b = let w = entered_in (L.known p) a in a ∙ sym (in_entered (K.known p) w.0 (alike.there p w.0 w.1))
-      go (inr a) (inl b) = let w = entered_in (K.known p) b in absurd (both_ways (is_in (L.known p)) a (in_entered (L.known p) w.0 (alike.back p w.0 w.1)))
-      go (inr a) (inr b) = a ∙ sym b
+  same_in p = elim (cases_Bool (is_in (L.known p))) [
+    | inl a ↦ let w = entered_in (L.known p) a in a ∙ sym (in_entered (K.known p) w.0 (alike.there p w.0 w.1))
+    | inr a ↦ a ∙ sym (false_from_ne_true (is_in (K.known p)) (λ b. let w = entered_in (K.known p) b in both_ways (is_in (L.known p)) a (in_entered (L.known p) w.0 (alike.back p w.0 w.1))))
+  ]
 
   no_sample : (k : Known G.Member) → is_in k ≡ false → sample_or G.zero k ≡ G.zero
   unfolding is_in sample_or
   no_sample free e = refl
   no_sample (drawn o) e = refl
-  no_sample (entered x) e = absurd (both_ways true e refl)
+  no_sample (entered x) e = cc e
 
   same_sample : (p : ℕ) → sample_at G L p ≡ sample_at G K p
   unfolding sample_at
-  same_sample p = go (cases_Bool (is_in (L.known p)))
-    where
-      go : (is_in (L.known p) ≡ true) ⊎ (is_in (L.known p) ≡ false) → sample_or G.zero (L.known p) ≡ sample_or G.zero (K.known p)
-      go (inl a) = let w = entered_in (L.known p) a in ap (sample_or G.zero) (w.1 ∙ sym (alike.there p w.0 w.1))
-      go (inr a) = no_sample (L.known p) a ∙ sym (no_sample (K.known p) (sym (same_in p) ∙ a))
+  same_sample p = elim (cases_Bool (is_in (L.known p))) [ inl a ↦ let w = entered_in (L.known p) a in ap (sample_or G.zero) (w.1 ∙ sym (alike.there p w.0 w.1)) | inr a ↦ no_sample (L.known p) a ∙ sym (no_sample (K.known p) (sym (same_in p) ∙ a)) ]
 
   -- all that the questions look at: the dimensions, which points are in, and the samples
   abbrev View : Type 0

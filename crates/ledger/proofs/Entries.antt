@@ -1,12 +1,12 @@
 -- Points in: the ledger says of them what the history says.
-use Rattle.std.proofs.Common.{◌≡◌, ℕ, Bool, true, false, ◌⊎◌, List, [], ◌∷◌, sym, refl, ap, ◌∙◌, inl, inr, arith}
+use Rattle.std.proofs.Common.{◌≡◌, ℕ, Bool, true, false, ◌⊎◌, List, [], ◌∷◌, sym, refl, ap, ◌∙◌, inl, inr}
 use Rattle.std.proofs.lemmas.Bool.{both_ways}
 use Rattle.ledger.specs.Ledger.{Holding, Known, free, drawn, entered, Ledger, put, has_child}
-use Rattle.ledger.specs.Calls.{Call, enter, remove, Outcome, next_holding, swept, step}
+use Rattle.ledger.specs.Calls.{Call, enter, remove, Outcome, step}
 use Rattle.ledger.specs.Making.{Figures, make}
 use Rattle.ledger.specs.Course.{event, history_from, end_from}
 use Rattle.ledger.specs.History.{NoneIs, Enters, Removes, Changes, LastEntered}
-use Rattle.ledger.proofs.Known.{PutCases, put_cases, put_on, put_at, PutFrom, put_from, free_entered, drawn_entered, in_entered, held_out, SweptCases, swept_cases, new_free}
+use Rattle.ledger.proofs.Known.{put_cases, put_on, put_at, put_from, in_entered, held_out, swept_cases, new_free}
 use Rattle.ledger.proofs.Steps.{did, then, Way, refuses, draws, takes, spoils, returns, sweeps, removes, way}
 
 module _ {M : Type 0} (fits : M → Bool) where
@@ -14,32 +14,30 @@ module _ {M : Type 0} (fits : M → Bool) where
   module _ (L : Ledger M) where
     enters_along : (q : ℕ) (x : M) (c : Call M) (o : Outcome M) → Way fits L c o → Enters q x (did c o)
         → (h : Holding) × (L.known q ≡ drawn h) × (o.after.known q ≡ entered x) × (fits x ≡ true)
-    enters_along q x c o (refuses b r n) e = let a = e.3 in let z : ◌≡◌ {A = ℕ} 0 1 = cc in absurd (omega arith)
-    enters_along q x c o (draws p s k) e = let a = e.2 in let z : ◌≡◌ {A = ℕ} 0 1 = cc in absurd (omega arith)
+    enters_along q x c o (refuses b r n) e = cc e.3
+    enters_along q x c o (draws p s k) e = cc e.2
     enters_along q x c o (takes t y h f) e =
         let w = held_out L t h in
-        let a = e.2 in
-        let i : t ≡ e.0 = cc in
-        let j : y ≡ x = cc in
-        let p : q ≡ t.point = sym e.1 ∙ ap (λ u. u.point) (sym i) in
+        let j : y ≡ x = cc e.2 in
+        let p : q ≡ t.point = cc (e.1, e.2) in
         (w.0, ap L.known p ∙ w.2, put_at L.known t.point (entered y) q p ∙ ap entered j, ap fits (sym j) ∙ f)
-    enters_along q x c o (spoils t y h f) e = let a = e.3 in let z : ◌≡◌ {A = ℕ} 0 1 = cc in absurd (omega arith)
-    enters_along q x c o (returns t h) e = let a = e.2 in let z : ◌≡◌ {A = ℕ} 0 1 = cc in absurd (omega arith)
-    enters_along q x c o (sweeps s n) e = let a = e.2 in let z : ◌≡◌ {A = ℕ} 0 1 = cc in absurd (omega arith)
-    enters_along q x c o (removes p k) e = let a = e.2 in let z : ◌≡◌ {A = ℕ} 0 1 = cc in absurd (omega arith)
+    enters_along q x c o (spoils t y h f) e = cc e.3
+    enters_along q x c o (returns t h) e = cc e.2
+    enters_along q x c o (sweeps s n) e = cc e.2
+    enters_along q x c o (removes p k) e = cc e.2
 
     removes_along : (q : ℕ) (c : Call M) (o : Outcome M) → Way fits L c o → Removes q (did c o) → o.after.known q ≡ free
-    removes_along q c o (refuses b r n) e = let a = e.1 in let z : ◌≡◌ {A = ℕ} 0 1 = cc in absurd (omega arith)
-    removes_along q c o (draws p s k) e = let a = e.0 in let z : ◌≡◌ {A = ℕ} 0 1 = cc in absurd (omega arith)
-    removes_along q c o (takes t y h f) e = let a = e.0 in let z : ◌≡◌ {A = ℕ} 0 1 = cc in absurd (omega arith)
-    removes_along q c o (spoils t y h f) e = let a = e.0 in let z : ◌≡◌ {A = ℕ} 0 1 = cc in absurd (omega arith)
-    removes_along q c o (returns t h) e = let a = e.0 in let z : ◌≡◌ {A = ℕ} 0 1 = cc in absurd (omega arith)
-    removes_along q c o (sweeps s n) e = let a = e.0 in let z : ◌≡◌ {A = ℕ} 0 1 = cc in absurd (omega arith)
-    removes_along q c o (removes p k) e = let a = e.0 in let i : q ≡ p = cc in put_at L.known p free q i
+    removes_along q c o (refuses b r n) e = cc e.1
+    removes_along q c o (draws p s k) e = cc e.0
+    removes_along q c o (takes t y h f) e = cc e.0
+    removes_along q c o (spoils t y h f) e = cc e.0
+    removes_along q c o (returns t h) e = cc e.0
+    removes_along q c o (sweeps s n) e = cc e.0
+    removes_along q c o (removes p k) e = put_at L.known p free q (cc e.0)
 
     -- a change at a point that is out leaves what is in
     in_stays : (q : ℕ) (x : M) (p : ℕ) (k : Known M) (h : Holding) → L.known q ≡ entered x → L.known p ≡ drawn h → put L.known p k q ≡ entered x
-    in_stays q x p k h e d = put_on L.known p k q (λ i. drawn_entered (L.known q) h x (ap L.known i ∙ d) e) ∙ e
+    in_stays q x p k h e d = put_on L.known p k q (λ i. cc (i, d, e)) ∙ e
 
     entered_along : (q : ℕ) (x : M) (c : Call M) (o : Outcome M) → Way fits L c o → L.known q ≡ entered x
         → (o.after.known q ≡ entered x) ⊎ (Removes q (did c o) × (has_child L q ≡ false))
@@ -48,44 +46,26 @@ module _ {M : Type 0} (fits : M → Bool) where
     entered_along q x c o (takes t y h f) e = let w = held_out L t h in inl (in_stays q x t.point _ w.0 e w.2)
     entered_along q x c o (spoils t y h f) e = let w = held_out L t h in inl (in_stays q x t.point _ w.0 e w.2)
     entered_along q x c o (returns t h) e = let w = held_out L t h in inl (in_stays q x t.point _ w.0 e w.2)
-    entered_along q x c o (sweeps s n) e = inl (go (swept_cases s (L.known q)))
-      where
-        go : SweptCases s (L.known q) → swept s (L.known q) ≡ entered x
-        go (inl w) = absurd (drawn_entered (L.known q) w.0 x w.1 e)
-        go (inr w) = w.1 ∙ e
-    entered_along q x c o (removes p k) e = go (put_cases L.known p free q)
-      where
-        go : PutCases L.known p free q → (put L.known p free q ≡ entered x) ⊎ (Removes q (did c o) × (has_child L q ≡ false))
-        go (inl w) = inr ((ap remove (sym w.0), refl), ap (has_child L) w.0 ∙ k.childless)
-        go (inr w) = inl (w.1 ∙ e)
+    entered_along q x c o (sweeps s n) e = inl (elim (swept_cases s (L.known q)) [ inl w ↦ cc (w.1, e) | inr w ↦ w.1 ∙ e ])
+    entered_along q x c o (removes p k) e = elim (put_cases L.known p free q) [
+      | inl w ↦ inr ((ap remove (sym w.0), refl), ap (has_child L) w.0 ∙ k.childless)
+      | inr w ↦ inl (w.1 ∙ e)
+    ]
 
     -- where p is freed, what is in was in before
     in_before : (q : ℕ) (x : M) (p : ℕ) → put L.known p free q ≡ entered x → L.known q ≡ entered x
-    in_before q x p e = go (put_from L.known p free q (entered x) e)
-      where
-        go : PutFrom L.known p free q (entered x) → L.known q ≡ entered x
-        go (inl w) = absurd (free_entered free x refl w.1)
-        go (inr w) = w.1
+    in_before q x p e = elim (put_from L.known p free q (entered x) e) [ inl w ↦ cc w.1 | inr w ↦ w.1 ]
 
     came_along : (q : ℕ) (x : M) (c : Call M) (o : Outcome M) → Way fits L c o → o.after.known q ≡ entered x → (L.known q ≡ entered x) ⊎ Enters q x (did c o)
     came_along q x c o (refuses b r n) e = inl e
-    came_along q x c o (draws p s k) e = go (put_from L.known p _ q _ e)
-      where
-        go : PutFrom L.known p (drawn (next_holding L s)) q (entered x) → (L.known q ≡ entered x) ⊎ Enters q x (did c o)
-        go (inl w) = absurd (drawn_entered _ _ x refl w.1)
-        go (inr w) = inl w.1
-    came_along q x c o (takes t y h f) e = go (put_from L.known t.point _ q _ e)
-      where
-        go : PutFrom L.known t.point (entered y) q (entered x) → (L.known q ≡ entered x) ⊎ Enters q x (did c o)
-        go (inl w) = let a = w.1 in let j : y ≡ x = cc in inr (t, sym w.0, ap (enter t) j, refl)
-        go (inr w) = inl w.1
+    came_along q x c o (draws p s k) e = elim (put_from L.known p _ q _ e) [ inl w ↦ cc w.1 | inr w ↦ inl w.1 ]
+    came_along q x c o (takes t y h f) e = elim (put_from L.known t.point _ q _ e) [
+      | inl w ↦ let j : y ≡ x = cc w.1 in inr (t, sym w.0, ap (enter t) j, refl)
+      | inr w ↦ inl w.1
+    ]
     came_along q x c o (spoils t y h f) e = inl (in_before q x t.point e)
     came_along q x c o (returns t h) e = inl (in_before q x t.point e)
-    came_along q x c o (sweeps s n) e = inl (go (swept_cases s (L.known q)))
-      where
-        go : SweptCases s (L.known q) → L.known q ≡ entered x
-        go (inl w) = absurd (free_entered _ x w.3 e)
-        go (inr w) = sym w.1 ∙ e
+    came_along q x c o (sweeps s n) e = inl (elim (swept_cases s (L.known q)) [ inl w ↦ cc (w.3, e) | inr w ↦ sym w.1 ∙ e ])
     came_along q x c o (removes p k) e = inl (in_before q x p e)
 
   module _ (L : Ledger M) (c : Call M) where
@@ -113,11 +93,7 @@ module _ {M : Type 0} (fits : M → Bool) where
   unchanged : (L : Ledger M) (p : ℕ) (x : M) → L.known p ≡ entered x → (cs : List (Call M)) → NoneIs (Changes p) (history_from fits L cs) → (end_from fits L cs).known p ≡ entered x
   unfolding history_from end_from
   unchanged L p x e [] n = e
-  unchanged L p x e (c ∷ cs) n = unchanged (then fits L c) p x (go (entered_next L c p x e)) cs n.1
-    where
-      go : ((then fits L c).known p ≡ entered x) ⊎ (Removes p (event fits L c) × (has_child L p ≡ false)) → (then fits L c).known p ≡ entered x
-      go (inl k) = k
-      go (inr w) = absurd (n.0 (inr w.0))
+  unchanged L p x e (c ∷ cs) n = unchanged (then fits L c) p x (elim (entered_next L c p x e) [ inl k ↦ k | inr w ↦ absurd (n.0 (inr w.0)) ]) cs n.1
 
   -- the sample last entered is in at the end
   pub history_in : (L : Ledger M) (cs : List (Call M)) (p : ℕ) (x : M) → LastEntered (history_from fits L cs) p x → (end_from fits L cs).known p ≡ entered x
@@ -136,8 +112,8 @@ module _ {M : Type 0} (fits : M → Bool) where
   in_since L (c ∷ cs) p x e = go (in_since (then fits L c) cs p x e)
     where
       still : L.known p ≡ entered x → (then fits L c).known p ≡ entered x → Changes p (event fits L c) → ⊥
-      still a b (inl w) = let u = enters_was L c p w.0 w.1 in drawn_entered (L.known p) u.0 x u.1 a
-      still a b (inr w) = free_entered ((then fits L c).known p) x (removes_now L c p w) b
+      still a b (inl w) = let u = enters_was L c p w.0 w.1 in cc (u.1, a)
+      still a b (inr w) = cc (removes_now L c p w, b)
 
       back : (then fits L c).known p ≡ entered x → NoneIs (Changes p) (history_from fits (then fits L c) cs) → (L.known p ≡ entered x) ⊎ Enters p x (event fits L c) → InSince L (c ∷ cs) p x
       back k n (inl a) = inl (a, (still a k, n))
@@ -149,8 +125,4 @@ module _ {M : Type 0} (fits : M → Bool) where
 
   -- what is in at the end of a course was last entered
   pub in_history : (f : Figures) (cs : List (Call M)) (p : ℕ) (x : M) → (end_from fits (make f) cs).known p ≡ entered x → LastEntered (history_from fits (make f) cs) p x
-  in_history f cs p x e = go (in_since (make f) cs p x e)
-    where
-      go : InSince (make f) cs p x → LastEntered (history_from fits (make f) cs) p x
-      go (inl w) = absurd (free_entered ((make f).known p) x (new_free f p) w.0)
-      go (inr w) = w
+  in_history f cs p x e = elim (in_since (make f) cs p x e) [ inl w ↦ cc (new_free f p, w.0) | inr w ↦ w ]

@@ -1,8 +1,8 @@
 -- What is known of points: the tests of it, and what changes leave.
-use Rattle.std.proofs.Common.{◌≡◌, ℕ, Bool, true, false, cond, eqb, ◌⊎◌, Some, None, Option, sym, refl, ap, ◌∙◌, inl, inr, arith}
-use Rattle.std.proofs.lemmas.Bool.{both_ways, and_parts, and_from, eqb-true, eqb-false, eq-eqb, or_left, or_right}
+use Rattle.std.proofs.Common.{◌≡◌, ℕ, Bool, true, eqb, ◌⊎◌, Some, None, sym, refl, ap, ◌∙◌, inl, inr}
+use Rattle.std.proofs.lemmas.Bool.{both_ways, and_parts, and_from, eqb-true, eq-eqb, ne_eqb, or_left, or_right, cond-true, cond-false, cases_Bool}
+use Rattle.std.proofs.lemmas.Bool.Decides.{eqb_tells}
 use Rattle.points.specs.Refusals.{first}
-use Rattle.points.specs.declared.refusal.Refusal.{Refusal}
 use Rattle.ledger.specs.Ledger.{Holding, Known, free, drawn, entered, Ledger, Ticket, is_in, is_out_by, is_taken, put, is_held}
 use Rattle.ledger.specs.Calls.{is_by, swept}
 use Rattle.ledger.specs.Making.{Figures, figure_causes, make_by, make}
@@ -14,52 +14,28 @@ module _ {M : Type 0} where
 
   pub put_cases : (f : ℕ → Known M) (p : ℕ) (k : Known M) (q : ℕ) → PutCases f p k q
   unfolding put
-  put_cases f p k q = go (eqb q p) refl
-    where
-      go : (b : Bool) → eqb q p ≡ b → ((q ≡ p) × (cond b k (f q) ≡ k)) ⊎ ((q ≡ p → ⊥) × (cond b k (f q) ≡ f q))
-      go true e = inl (eqb-true q p e, refl)
-      go false e = inr (eqb-false q p e, refl)
+  put_cases f p k q = elim (eqb_tells q p) [ inl w ↦ inl (w.1, cond-true (eqb q p) k (f q) w.0) | inr w ↦ inr (w.1, cond-false (eqb q p) k (f q) w.0) ]
 
   pub put_on : (f : ℕ → Known M) (p : ℕ) (k : Known M) (q : ℕ) → (q ≡ p → ⊥) → put f p k q ≡ f q
-  put_on f p k q n = go (put_cases f p k q)
-    where
-      go : PutCases f p k q → put f p k q ≡ f q
-      go (inl w) = absurd (n w.0)
-      go (inr w) = w.1
+  unfolding put
+  put_on f p k q n = rw (ne_eqb q p n)
 
   pub put_at : (f : ℕ → Known M) (p : ℕ) (k : Known M) (q : ℕ) → q ≡ p → put f p k q ≡ k
-  put_at f p k q e = go (put_cases f p k q)
-    where
-      go : PutCases f p k q → put f p k q ≡ k
-      go (inl w) = w.1
-      go (inr w) = absurd (w.0 e)
+  unfolding put
+  put_at f p k q e = rw (eq-eqb q p e)
 
   -- v is known of q since k was put at p: it is k, or it was known before
   abbrev pub PutFrom : (ℕ → Known M) → ℕ → Known M → ℕ → Known M → Type 0
   PutFrom f p k q v = ((q ≡ p) × (k ≡ v)) ⊎ ((q ≡ p → ⊥) × (f q ≡ v))
 
   pub put_from : (f : ℕ → Known M) (p : ℕ) (k : Known M) (q : ℕ) (v : Known M) → put f p k q ≡ v → PutFrom f p k q v
-  put_from f p k q v e = go (put_cases f p k q)
-    where
-      go : PutCases f p k q → PutFrom f p k q v
-      go (inl w) = inl (w.0, sym w.1 ∙ e)
-      go (inr w) = inr (w.0, sym w.1 ∙ e)
-
-  -- free, out and in exclude one another
-  pub free_drawn : (k : Known M) (o : Holding) → k ≡ free → k ≡ drawn o → ⊥
-  free_drawn k o e h = let z : ◌≡◌ {A = ℕ} 0 1 = cc in omega arith
-
-  pub free_entered : (k : Known M) (x : M) → k ≡ free → k ≡ entered x → ⊥
-  free_entered k x e h = let z : ◌≡◌ {A = ℕ} 0 1 = cc in omega arith
-
-  pub drawn_entered : (k : Known M) (o : Holding) (x : M) → k ≡ drawn o → k ≡ entered x → ⊥
-  drawn_entered k o x e h = let z : ◌≡◌ {A = ℕ} 0 1 = cc in omega arith
+  put_from f p k q v e = elim (put_cases f p k q) [ inl w ↦ inl (w.0, sym w.1 ∙ e) | inr w ↦ inr (w.0, sym w.1 ∙ e) ]
 
   -- the tests of what is known
   pub entered_in : (k : Known M) → is_in k ≡ true → (x : M) × (k ≡ entered x)
   unfolding is_in
-  entered_in free h = absurd (both_ways false refl h)
-  entered_in (drawn o) h = absurd (both_ways false refl h)
+  entered_in free h = cc
+  entered_in (drawn o) h = cc
   entered_in (entered x) h = (x, refl)
 
   pub in_entered : (k : Known M) (x : M) → k ≡ entered x → is_in k ≡ true
@@ -68,9 +44,9 @@ module _ {M : Type 0} where
 
   pub drawn_out : (f : Holding → Bool) (k : Known M) → is_out_by f k ≡ true → (o : Holding) × (k ≡ drawn o) × (f o ≡ true)
   unfolding is_out_by
-  drawn_out f free h = absurd (both_ways false refl h)
+  drawn_out f free h = cc
   drawn_out f (drawn o) h = (o, refl, h)
-  drawn_out f (entered x) h = absurd (both_ways false refl h)
+  drawn_out f (entered x) h = cc
 
   pub out_drawn : (f : Holding → Bool) (k : Known M) (o : Holding) → k ≡ drawn o → f o ≡ true → is_out_by f k ≡ true
   unfolding is_out_by
@@ -85,7 +61,7 @@ module _ {M : Type 0} where
   -- in or out
   pub taken_cases : (k : Known M) → is_taken k ≡ true → ((x : M) × (k ≡ entered x)) ⊎ ((o : Holding) × (k ≡ drawn o))
   unfolding is_in is_out_by
-  taken_cases free h = absurd (both_ways false refl h)
+  taken_cases free h = cc
   taken_cases (drawn o) h = inr (o, refl)
   taken_cases (entered x) h = inl (x, refl)
 
@@ -107,11 +83,10 @@ module _ {M : Type 0} where
 
   pub swept_cases : (s : ℕ) (k : Known M) → SweptCases s k
   unfolding swept
-  swept_cases s k = go (is_by s k) refl
-    where
-      go : (b : Bool) → is_by s k ≡ b → ((o : Holding) × (k ≡ drawn o) × (o.session ≡ s) × (cond b free k ≡ free)) ⊎ (((o : Holding) → k ≡ drawn o → o.session ≡ s → ⊥) × (cond b free k ≡ k))
-      go true e = let w = drawn_out (λ o. eqb o.session s) k e in inl (w.0, w.1, eqb-true _ _ w.2, refl)
-      go false e = inr ((λ o h i. both_ways (is_by s k) e (out_drawn (λ o. eqb o.session s) k o h (eq-eqb _ _ i))), refl)
+  swept_cases s k = elim (cases_Bool (is_by s k)) [
+    | inl e ↦ let w = drawn_out (λ o. eqb o.session s) k e in inl (w.0, w.1, eqb-true _ _ w.2, cond-true (is_by s k) free k e)
+    | inr e ↦ inr ((λ o h i. both_ways (is_by s k) e (out_drawn (λ o. eqb o.session s) k o h (eq-eqb _ _ i))), cond-false (is_by s k) free k e)
+  ]
 
 -- a ticket is its three figures
 pub same_ticket : (t u : Ticket) → t.grid ≡ u.grid → t.number ≡ u.number → t.point ≡ u.point → t ≡ u
@@ -120,8 +95,4 @@ same_ticket t u g n p = λ i. record { grid = g i; number = n i; point = p i }
 -- nothing is known of any point of a new ledger
 pub new_free : {M : Type 0} (f : Figures) (p : ℕ) → (make {M = M} f).known p ≡ free
 unfolding make make_by
-new_free {M} f p = go (first (figure_causes f))
-  where
-    go : (v : Option Refusal) → (make_by {M = M} v f).known p ≡ free
-    go None = refl
-    go (Some e) = refl
+new_free {M} f p = elim (first (figure_causes f)) as (λ v. (make_by {M = M} v f).known p ≡ free) [ None ↦ refl | Some e ↦ refl ]

@@ -1,49 +1,48 @@
 -- Points as numbers and as coordinates on four axes.
-use Rattle.std.proofs.Common.{◌≡◌, ℕ, zero, suc, ◌-◌, ◌^◌, ◌<◌, ◌≤◌, Bool, true, leb, ◌⊎◌, List, [], ◌∷◌, map, take, Some, None, Option, sym, ap, ◌∙◌, subst, inl, inr, arith}
+use Rattle.std.proofs.Common.{◌≡◌, ℕ, zero, suc, ◌-◌, ◌^◌, ◌<◌, ◌≤◌, true, List, [], ◌∷◌, map, take, Some, None, Option, sym, ap, ◌∙◌, subst, inl, inr, arith}
+use Rattle.std.proofs.lemmas.List.Elements.{All-weaker}
+use Rattle.std.proofs.lemmas.List.Sums.{AllPass-from_list_all, list_all-from_AllPass}
+use Rattle.std.proofs.lemmas.Bool.Decides.{nat_tests}
+use Rattle.std.specs.List.{list_all}
 use Rattle.std.specs.Option.{option_to_list}
-use Rattle.std.proofs.lemmas.Bool.{le-leb, cases_lt, and_parts, and_from}
+use Rattle.std.proofs.lemmas.Bool.{cases_lt, and_parts, and_from}
 use Rattle.points.specs.Axis as coordinate
-use Rattle.points.specs.Points.{coords, number, every, is_point, is_place}
+use Rattle.points.specs.Points.{coords, number, is_point, is_place}
 use Rattle.points.proofs.Points.{numbered}
-use Rattle.points.proofs.Hierarchy.{inner_bounds, none_above, one_level_up}
+use Rattle.points.proofs.Hierarchy.{none_above, one_level_up}
 use Rattle.basis.specs.Lists.{IsIn}
 use Rattle.basis.specs.Axis.{zero_border, trivial, directions, four_axes}
 use Rattle.basis.specs.Grid.{Inside, places, parents}
 use Rattle.basis.specs.Shapes.{InnerPlaces}
-use Rattle.basis.proofs.Lists.{listed_map, map_listed, listed_split, length_map}
+use Rattle.basis.proofs.Lists.{listed_map, map_listed, listed_split, distinct_map}
+use Rattle.std.proofs.lemmas.List.{length-map}
 use Rattle.basis.proofs.Coordinates.{listed_inner, inner_listed}
 use Rattle.basis.proofs.Counts as counts
 use Rattle.basis.proofs.Numbers.{numbers_agree}
 use Rattle.ledger.specs.Ledger.{inner_places}
 use Rattle.ledger.specs.Numbers.{ListedPoints}
-use Rattle.ledger.proofs.Lists.{distinct_image}
 
 -- four coordinates make a number of 32 bits
 number_small : (n : ℕ) → number (coords n) < 2 ^ 32
 unfolding number coords
 number_small n = omega arith
 
-every_weaker : (f g : ℕ → Bool) → ((k : ℕ) → f k ≡ true → g k ≡ true) → (ks : List ℕ) → every f ks ≡ true → every g ks ≡ true
-unfolding every
-every_weaker f g h [] e = e
-every_weaker f g h (k ∷ ks) e = let w = and_parts (f k) _ e in and_from (g k) _ (h k w.0) (every_weaker f g h ks w.1)
+wider : (k : ℕ) → coordinate.inner k ≡ true → coordinate.within 0 128 k ≡ true
+wider k i = grind (arith, nat_tests)
 
 -- a point is a place
 pub point_place : (d p : ℕ) → is_point d p ≡ true → is_place d p ≡ true
 unfolding is_point is_place
 point_place d p e =
-    let w = and_parts (every coordinate.inner (take d (coords p))) _ e in
-    and_from (every (coordinate.within 0 128) (take d (coords p))) _
-    (every_weaker coordinate.inner (coordinate.within 0 128) (λ k i. let b = inner_bounds k i in and_from (leb 0 k) _ (le-leb 0 k (omega arith)) (le-leb k 128 (omega (arith, b.1)))) (take d (coords p)) w.0)
+    let used = take d (coords p) in
+    let w = and_parts (list_all coordinate.inner used) _ e in
+    and_from (list_all (coordinate.within 0 128) used) _
+    (list_all-from_AllPass (coordinate.within 0 128) used (All-weaker (λ k. coordinate.inner k ≡ true) (λ k. coordinate.within 0 128 k ≡ true) wider used (AllPass-from_list_all coordinate.inner used w.0)))
     w.1
 
 -- the parent of an inner coordinate is inner
 parent_inner : (k j : ℕ) → coordinate.inner k ≡ true → coordinate.parent k ≡ Some j → coordinate.inner j ≡ true
-parent_inner k j i e = go (cases_lt (coordinate.level k) 2)
-  where
-    go : (coordinate.level k < 2) ⊎ (2 ≤ coordinate.level k) → coordinate.inner j ≡ true
-    go (inl l) = let n = none_above k l in let z : ◌≡◌ {A = ℕ} 0 1 = cc in absurd (omega arith)
-    go (inr l) = let w = one_level_up.sole k i l in let p = w.1 in let s : j ≡ w.0 = cc in ap coordinate.inner s ∙ w.2.inside
+parent_inner k j i e = elim (cases_lt (coordinate.level k) 2) [ inl l ↦ let n = none_above k l in cc | inr l ↦ let w = one_level_up.sole k i l in let p = w.1 in let s : j ≡ w.0 = cc in ap coordinate.inner s ∙ w.2.inside ]
 
 parent_listed : (k j : ℕ) → IsIn k zero_border.coords → IsIn j (option_to_list (coordinate.parent k)) → IsIn j zero_border.coords
 parent_listed k j h m = inner_listed j (parent_inner k j (listed_inner k h) (held (coordinate.parent k) m))
@@ -62,17 +61,12 @@ parents_inside zero (suc n) (k ∷ ks) r i h =
     let w = map_listed (λ q. k ∷ q) r (parents (directions zero n) ks) h in
     subst (Inside (directions zero (suc n))) (sym w.2) (i.0, parents_inside zero n ks w.0 i.1 w.1)
 parents_inside (suc d) n [] r i h = absurd h
-parents_inside (suc d) n (k ∷ ks) r i h = go (listed_split r (map (λ j. j ∷ ks) (option_to_list (coordinate.parent k))) (map (λ q. k ∷ q) (parents (directions d n) ks)) h) (parents_inside d n ks)
-  where
-    go : IsIn r (map (λ j. j ∷ ks) (option_to_list (coordinate.parent k))) ⊎ IsIn r (map (λ q. k ∷ q) (parents (directions d n) ks))
-        → ((q : List ℕ) → Inside (directions d n) ks → IsIn q (parents (directions d n) ks) → Inside (directions d n) q)
-        → Inside (directions (suc d) n) r
-    go (inl m) later =
-        let w = map_listed (λ j. j ∷ ks) r (option_to_list (coordinate.parent k)) m in
-        subst (Inside (directions (suc d) n)) (sym w.2) (parent_listed k w.0 i.0 w.1, i.1)
-    go (inr m) later =
-        let w = map_listed (λ q. k ∷ q) r (parents (directions d n) ks) m in
-        subst (Inside (directions (suc d) n)) (sym w.2) (i.0, later w.0 i.1 w.1)
+parents_inside (suc d) n (k ∷ ks) r i h = elim (listed_split r (map (λ j. j ∷ ks) (option_to_list (coordinate.parent k))) (map (λ q. k ∷ q) (parents (directions d n) ks)) h) [
+  | inl m ↦ let w = map_listed (λ j. j ∷ ks) r (option_to_list (coordinate.parent k)) m in
+      subst (Inside (directions (suc d) n)) (sym w.2) (parent_listed k w.0 i.0 w.1, i.1)
+  | inr m ↦ let w = map_listed (λ q. k ∷ q) r (parents (directions d n) ks) m in
+      subst (Inside (directions (suc d) n)) (sym w.2) (i.0, parents_inside d n ks w.0 i.1 w.1)
+]
 
 pub parent_inside : (d : ℕ) (q r : List ℕ) → Inside (four_axes d) q → IsIn r (parents (four_axes d) q) → Inside (four_axes d) r
 parent_inside d q r i h = parents_inside d (4 - d) q r i h
@@ -88,9 +82,12 @@ listed_points d low = record {
         subst (λ n. n < 2 ^ 32) (ap number ((numbers_agree d low).back w.0 i) ∙ sym w.2) (number_small (number w.0)),
         ap (is_point d) w.2 ∙ (numbers_agree d low).is_point w.0 i,
       );
-  once = distinct_image number coords (places (four_axes d)) (λ q m. (numbers_agree d low).back q (inner.only q m)) inner.distinct;
-  many = length_map number (places (four_axes d)) ∙ inner.count;
+  once = distinct_map number (places (four_axes d)) (λ a b h k e. sym (back a h) ∙ ap coords e ∙ back b k) inner.distinct;
+  many = length-map (places (four_axes d)) number ∙ inner.count;
 }
   where
     inner : InnerPlaces d (4 - d)
     inner = counts.inner_places d (4 - d)
+
+    back : (q : List ℕ) → IsIn q (places (four_axes d)) → coords (number q) ≡ q
+    back q m = (numbers_agree d low).back q (inner.only q m)

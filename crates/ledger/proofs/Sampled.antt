@@ -26,7 +26,8 @@ use Rattle.ledger.specs.Ledger.{Ledger, is_in, axes_of, inner_places, no_place}
 use Rattle.ledger.specs.Questions.{reply, point_in_causes, points_in, count_of, sample_or, sample_at, samples, surpluses, surplus_at, value_at, integral_of, ask_sample, ask_surplus, ask_value}
 use Rattle.ledger.specs.Interpolation.{Listing, Interpolates, SoleCoefficients}
 use Rattle.ledger.specs.Sound.{Sound, In}
-use Rattle.ledger.proofs.Lists.{kept_only, kept_all, kept_distinct, same_length}
+use Rattle.ledger.proofs.Lists.{kept_only, kept_all, kept_distinct}
+use Rattle.basis.proofs.Sets.{same_length}
 use Rattle.ledger.proofs.Places.{point_place, parent_inside}
 use Rattle.ledger.proofs.Known.{entered_in, in_entered, taken_in}
 use Rattle.ledger.proofs.Steps.{none_first}

@@ -1,24 +1,25 @@
 -- A new ledger is sound, and every call keeps it so.
-use Rattle.std.proofs.Common.{◌≡◌, ℕ, ◌<◌, ◌≤◌, Bool, true, false, ◌&&◌, eqb, ◌⊎◌, List, [], ◌∷◌, Some, None, Option, refl, ap, ◌∙◌, inl, inr, arith}
+use Rattle.std.proofs.Common.{◌≡◌, ℕ, ◌<◌, ◌≤◌, Bool, true, false, ◌&&◌, eqb, ◌⊎◌, List, [], ◌∷◌, Some, None, refl, ap, ◌∙◌, inl, inr, arith}
+use Rattle.std.specs.List.{list_any}
 use Rattle.std.proofs.lemmas.Bool.{both_ways, not-false, and_from, eq-eqb}
 use Rattle.points.specs.Axis.{within}
 use Rattle.points.specs.Points.{parents}
 use Rattle.points.specs.Refusals.{first}
-use Rattle.points.specs.declared.refusal.Refusal.{Refusal}
 use Rattle.basis.specs.Lists.{IsIn}
-use Rattle.ledger.specs.Ledger.{Holding, Known, free, drawn, entered, Ledger, is_in, is_taken, inner_places, any, counted, has_child, no_point}
+use Rattle.ledger.specs.Ledger.{Holding, Known, free, entered, Ledger, is_in, is_taken, inner_places, counted, has_child, no_point}
 use Rattle.ledger.specs.Calls.{Call}
 use Rattle.ledger.specs.Making.{Figures, figure_causes, make_by, make}
 use Rattle.ledger.specs.Course.{event, end_from}
 use Rattle.ledger.specs.History.{Enters, Removes}
 use Rattle.ledger.specs.Sound.{Sound, StaysSound}
 use Rattle.ledger.specs.Guarantees.{ticket_of}
-use Rattle.ledger.proofs.Lists.{every_has, any_has, any_none, count_at_most}
+use Rattle.basis.proofs.Lists.{every_listed, any_has, any_none}
+use Rattle.ledger.proofs.Lists.{count_at_most}
 use Rattle.ledger.proofs.Places.{listed_points}
-use Rattle.ledger.proofs.Known.{new_free, free_drawn, free_entered, in_entered, entered_in, taken_cases}
-use Rattle.ledger.proofs.Steps.{first_none, then, dims_stay}
+use Rattle.ledger.proofs.Known.{new_free, in_entered, entered_in, taken_cases}
+use Rattle.ledger.proofs.Steps.{next_grows, first_none, then, dims_stay}
 use Rattle.ledger.proofs.Entries.{enters_was, entered_next, entered_before}
-use Rattle.ledger.proofs.Holdings.{next_grows, Before, before, out_now}
+use Rattle.ledger.proofs.Holdings.{Before, before, out_now}
 use Rattle.ledger.proofs.Lawful.{at_most_four, taken_listed}
 use Rattle.ledger.proofs.Sources.{Source, source}
 use Rattle.ledger.proofs.Counts.{places_after}
@@ -28,8 +29,8 @@ module _ {M : Type 0} (fits : M → Bool) where
   no_orphan : (L : Ledger M) → Sound fits L → (p q : ℕ) → is_taken (L.known p) ≡ true → IsIn q (parents p) → has_child L q ≡ false → ⊥
   unfolding has_child
   no_orphan L h p q a e f =
-      both_ways (is_taken (L.known p) && any (eqb q) (parents p))
-      (any_none (λ r. is_taken (L.known r) && any (eqb q) (parents r)) (inner_places L.dims) f p (taken_listed fits L h p a))
+      both_ways (is_taken (L.known p) && list_any (eqb q) (parents p))
+      (any_none (λ r. is_taken (L.known r) && list_any (eqb q) (parents r)) (inner_places L.dims) f p (taken_listed fits L h p a))
       (and_from (is_taken (L.known p)) _ a (any_has (eqb q) (parents p) q e (eq-eqb q q refl)))
 
   -- a parent of what is in or out after a call is in after it
@@ -39,19 +40,15 @@ module _ {M : Type 0} (fits : M → Bool) where
     where
       was : Source fits L c p → is_in (L.known q) ≡ true
       was (inl a) = h.parents_in p a q e
-      was (inr d) = every_has (λ r. is_in (L.known r)) (parents p) d.drawable.parents_in q e
+      was (inr d) = every_listed (λ r. is_in (L.known r)) (parents p) d.drawable.parents_in q e
 
       -- a removal draws nothing
       lost : Removes q (event fits L c) → has_child L q ≡ false → Source fits L c p → ⊥
       lost r n (inl a) = no_orphan L h p q a e n
-      lost r n (inr d) = let i = r.0 in let j = d.call in let z : ◌≡◌ {A = ℕ} 0 1 = cc in omega arith
+      lost r n (inr d) = cc (r.0, d.call)
 
       by : Source fits L c p → (x : M) × (L.known q ≡ entered x) → is_in ((then fits L c).known q) ≡ true
-      by b w = go (entered_next fits L c q w.0 w.1)
-        where
-          go : ((then fits L c).known q ≡ entered w.0) ⊎ (Removes q (event fits L c) × (has_child L q ≡ false)) → is_in ((then fits L c).known q) ≡ true
-          go (inl k) = in_entered ((then fits L c).known q) w.0 k
-          go (inr r) = absurd (lost r.0 r.1 b)
+      by b w = elim (entered_next fits L c q w.0 w.1) [ inl k ↦ in_entered ((then fits L c).known q) w.0 k | inr r ↦ absurd (lost r.0 r.1 b) ]
 
   -- a sound ledger is sound after any call
   sound_on : (L : Ledger M) → Sound fits L → (c : Call M) → Sound fits (then fits L c)
@@ -81,19 +78,14 @@ module _ {M : Type 0} (fits : M → Bool) where
 
   new_dimensions : (f : Figures) → within 1 4 (make {M = M} f).dims ≡ true
   unfolding make make_by
-  new_dimensions f = go (first (figure_causes f)) refl
-    where
-      go : (v : Option Refusal) → first (figure_causes f) ≡ v → within 1 4 (make_by {M = M} v f).dims ≡ true
-      go None e = not-false _ (first_none (figure_causes f) e).0
-      go (Some r) e = refl
+  new_dimensions f = elim (first (figure_causes f)) as (λ v. first (figure_causes f) ≡ v → within 1 4 (make_by {M = M} v f).dims ≡ true) [
+    | None ↦ λ e. not-false _ (first_none (figure_causes f) e).0
+    | Some r ↦ λ e. refl
+  ] refl
 
   -- nothing is in or out of a new ledger
   none_taken : (k : Known M) → k ≡ free → is_taken k ≡ true → ⊥
-  none_taken k e t = go (taken_cases k t)
-    where
-      go : ((x : M) × (k ≡ entered x)) ⊎ ((h : Holding) × (k ≡ drawn h)) → ⊥
-      go (inl w) = free_entered k w.0 e w.1
-      go (inr w) = free_drawn k w.0 e w.1
+  none_taken k e t = elim (taken_cases k t) [ inl w ↦ cc w.1 | inr w ↦ cc w.1 ]
 
   new_places : (f : Figures) → counted is_taken (make {M = M} f) ≤ (make {M = M} f).room
   unfolding counted
@@ -106,9 +98,9 @@ module _ {M : Type 0} (fits : M → Bool) where
     dimensions = new_dimensions f;
     lawful = λ p a. absurd (none_taken _ (new_free f p) a);
     parents_in = λ p a q e. absurd (none_taken _ (new_free f p) a);
-    fit = λ p x e. absurd (free_entered _ x (new_free f p) e);
+    fit = λ p x e. cc (new_free f p, e);
     within_room = new_places f;
-    issued = λ p o e. absurd (free_drawn _ o (new_free f p) e);
+    issued = λ p o e. cc (new_free f p, e);
   }
 
   pub stays_sound : StaysSound fits

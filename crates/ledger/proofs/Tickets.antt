@@ -3,16 +3,16 @@ use Rattle.std.proofs.Common.{◌≡◌, ℕ, ◌<◌, Bool, true, false, ◌⊎
 use Rattle.std.proofs.lemmas.Bool.{both_ways, cases_Bool}
 use Rattle.points.specs.Refusals.{first}
 use Rattle.points.specs.declared.refusal.Refusal.{Refusal}
-use Rattle.points.specs.declared.refusal.Refusal.TheVariants.{Sample, NoSuchTicket}
-use Rattle.ledger.specs.Ledger.{Holding, Known, free, drawn, Ledger, Ticket, is_held}
-use Rattle.ledger.specs.Calls.{Call, draw, enter, withdraw, handed, done, refused, Outcome, unless, with_point, draw_causes, ticket_causes, received, step}
+use Rattle.points.specs.declared.refusal.Refusal.TheVariants.{NoSuchTicket}
+use Rattle.ledger.specs.Ledger.{Holding, drawn, Ledger, Ticket, is_held}
+use Rattle.ledger.specs.Calls.{Call, draw, enter, withdraw, handed, refused, Outcome, unless, draw_causes, received, step}
 use Rattle.ledger.specs.Making.{make}
 use Rattle.ledger.specs.Course.{Event, event, history_from, end_from, Course, history, end}
 use Rattle.ledger.specs.History.{NoneIs, SomeIs, Draws, Ends, Outstanding, Ended, DrawnAnew}
 use Rattle.ledger.specs.Guarantees.{OutUnder, ticket_of, Held, Void, OnlyAnew, TicketsHold}
-use Rattle.ledger.proofs.Known.{new_free, free_drawn, out_drawn, held_out, out_held, same_ticket}
-use Rattle.ledger.proofs.Steps.{first_none, Drawable, drawable, grid_stays, then}
-use Rattle.ledger.proofs.Holdings.{next_grows, stays, Before, before, out_now}
+use Rattle.ledger.proofs.Known.{new_free, out_drawn, held_out, out_held, same_ticket}
+use Rattle.ledger.proofs.Steps.{next_grows, first_none, Drawable, drawable, grid_stays, then}
+use Rattle.ledger.proofs.Holdings.{stays, Before, before, out_now}
 
 module _ {M : Type 0} (fits : M → Bool) where
   -- a ticket out that does not end is out at the end
@@ -41,11 +41,10 @@ module _ {M : Type 0} (fits : M → Bool) where
   -- out under a number that was used up before the call: out before it, under a ticket that the call does not end
   earlier : (L : Ledger M) (t : Ticket) → t.number < L.next → (c : Call M) (h : Holding) → (then fits L c).known t.point ≡ drawn h → h.ticket ≡ t.number
       → (L.known t.point ≡ drawn h) × (t.grid ≡ L.grid → Ends t h.session (event fits L c) → ⊥)
-  earlier L t l c h e n = go (before fits L c t.point h e)
-    where
-      go : Before fits L t.point h (event fits L c) → (L.known t.point ≡ drawn h) × (t.grid ≡ L.grid → Ends t h.session (event fits L c) → ⊥)
-      go (inl w) = (w.0, λ g z. w.1 (subst (λ u. Ends u h.session (event fits L c)) (same_ticket t (ticket_of L t.point h) g (sym n) refl) z))
-      go (inr w) = let m = w.1 in absurd (omega arith)
+  earlier L t l c h e n = elim (before fits L c t.point h e) [
+    | inl w ↦ (w.0, λ g z. w.1 (subst (λ u. Ends u h.session (event fits L c)) (same_ticket t (ticket_of L t.point h) g (sym n) refl) z))
+    | inr w ↦ let m = w.1 in absurd (omega arith)
+  ]
 
   tied_on : (L : Ledger M) (t : Ticket) (s : ℕ) → Tied L t s → (c : Call M) → Tied (then fits L c) t s
   tied_on L t s a c = record {
@@ -78,7 +77,7 @@ module _ {M : Type 0} (fits : M → Bool) where
   tied_now L t s o l = record {
     grid = o.grid;
     less = l;
-    one = λ h e n. let k : ◌≡◌ {A = Known M} (drawn h) (drawn o.holding) = sym e ∙ o.known in let i : h ≡ o.holding = cc in ap (λ g. g.session) i ∙ o.session;
+    one = λ h e n. cc (e, o.known, o.session);
   }
 
   ended_gone : (L : Ledger M) (cs : List (Call M)) (t : Ticket) (s : ℕ) → Ended (history_from fits L cs) t s → Gone (end_from fits L cs) t
@@ -89,39 +88,27 @@ module _ {M : Type 0} (fits : M → Bool) where
 
   -- the answers to a ticket that is not held, and to one that is
   module _ (L : Ledger M) (t : Ticket) where
-    not_held : is_held L t ≡ false → first (ticket_causes L t) ≡ Some NoSuchTicket
-    not_held h = rw h
-
-    held : is_held L t ≡ true → first (ticket_causes L t) ≡ None
-    held h = rw h
-
     enter_unknown : (x : M) → is_held L t ≡ false → (step fits L (enter t x)).answer ≡ refused NoSuchTicket
     unfolding step unless
-    enter_unknown x h = ap (λ v. (unless v L (received (fits x) L t.point x)).answer) (not_held h)
+    enter_unknown x h = rw h
 
     withdraw_unknown : is_held L t ≡ false → (step fits L (withdraw t)).answer ≡ refused NoSuchTicket
     unfolding step unless
-    withdraw_unknown h = ap (λ v. (unless v L (record { answer = done; after = with_point L t.point free })).answer) (not_held h)
+    withdraw_unknown h = rw h
 
     enter_known : (x : M) → is_held L t ≡ true → (step fits L (enter t x)).answer ≡ refused NoSuchTicket → ⊥
     unfolding step unless received
-    enter_known x h e = go (fits x) (sym (ap (λ v. (unless v L (received (fits x) L t.point x)).answer) (held h)) ∙ e)
-      where
-        go : (b : Bool) → (received b L t.point x).answer ≡ refused NoSuchTicket → ⊥
-        go true q = let z : ◌≡◌ {A = ℕ} 0 1 = cc in omega arith
-        go false q = let i : Sample ≡ NoSuchTicket = cc in let z : ◌≡◌ {A = ℕ} 0 1 = cc in omega arith
+    enter_known x h e = let q = rw h at e in elim (fits x) as (λ b. (received b L t.point x).answer ≡ refused NoSuchTicket → ⊥) [ true ↦ λ r. cc | false ↦ λ r. cc ] q
 
     withdraw_known : is_held L t ≡ true → (step fits L (withdraw t)).answer ≡ refused NoSuchTicket → ⊥
     unfolding step unless
-    withdraw_known h e =
-        let q : done ≡ refused NoSuchTicket = sym (ap (λ v. (unless v L (record { answer = done; after = with_point L t.point free })).answer) (held h)) ∙ e in
-        let z : ◌≡◌ {A = ℕ} 0 1 = cc in omega arith
+    withdraw_known h e = let q = rw h at e in cc
 
   -- an accepted draw has no cause against it
   unless_handed : (v : Option Refusal) (L : Ledger M) (o : Outcome M) (t : Ticket) → (unless v L o).answer ≡ handed t → v ≡ None
   unfolding unless
   unless_handed None L o t h = refl
-  unless_handed (Some e) L o t h = let z : ◌≡◌ {A = ℕ} 0 1 = cc in absurd (omega arith)
+  unless_handed (Some e) L o t h = cc
 
   pub draw_accepted : (L : Ledger M) (p s : ℕ) (t : Ticket) → (step fits L (draw p s)).answer ≡ handed t → Drawable L p
   unfolding step
@@ -141,11 +128,10 @@ module _ {M : Type 0} (fits : M → Bool) where
 
   void : (c : Course M) (t : Ticket) (s : ℕ) → Ended (history fits c) t s → Void fits c t
   unfolding event
-  void c t s z = go (cases_Bool (is_held (end fits c) t))
-    where
-      go : (is_held (end fits c) t ≡ true) ⊎ (is_held (end fits c) t ≡ false) → Void fits c t
-      go (inl h) = let w = held_out (end fits c) t h in absurd ((ended_gone (make c.figures) c.calls t s z).none w.0 w.2 w.3)
-      go (inr h) = record { not_enterable = λ x. enter_unknown (end fits c) t x h; not_withdrawable = withdraw_unknown (end fits c) t h }
+  void c t s z = elim (cases_Bool (is_held (end fits c) t)) [
+    | inl h ↦ let w = held_out (end fits c) t h in absurd ((ended_gone (make c.figures) c.calls t s z).none w.0 w.2 w.3)
+    | inr h ↦ record { not_enterable = λ x. enter_unknown (end fits c) t x h; not_withdrawable = withdraw_unknown (end fits c) t h }
+  ]
 
   end_on : (L : Ledger M) (cs : List (Call M)) (c : Call M) (ds : List (Call M)) → end_from fits L (cs ++ (c ∷ ds)) ≡ end_from fits (then fits (end_from fits L cs) c) ds
   unfolding end_from
@@ -173,31 +159,27 @@ module _ {M : Type 0} (fits : M → Bool) where
 
   -- what ends a ticket is no draw
   end_no_draw : (t u : Ticket) (s r : ℕ) (e : Event M) → Ends t s e → Draws u r e → ⊥
-  end_no_draw t u s r e (inl w) d = let a = w.1 in let b = d.0 in let z : ◌≡◌ {A = ℕ} 0 1 = cc in omega arith
-  end_no_draw t u s r e (inr (inl w)) d = let a = w.0 in let b = d.0 in let z : ◌≡◌ {A = ℕ} 0 1 = cc in omega arith
-  end_no_draw t u s r e (inr (inr w)) d = let a = w.1 in let b = d.0 in let z : ◌≡◌ {A = ℕ} 0 1 = cc in omega arith
+  end_no_draw t u s r e (inl w) d = cc (w.1, d.0)
+  end_no_draw t u s r e (inr (inl w)) d = cc (w.0, d.0)
+  end_no_draw t u s r e (inr (inr w)) d = cc (w.1, d.0)
 
   -- a ticket that ends leaves its point not out
   freed_now : (L : Ledger M) (t : Ticket) (s : ℕ) → OutUnder L t s → (c : Call M) → Ends t s (event fits L c) → (h : Holding) → (then fits L c).known t.point ≡ drawn h → ⊥
-  freed_now L t s o c z h e = go (before fits L c t.point h e)
-    where
-      go : Before fits L t.point h (event fits L c) → ⊥
-      go (inl w) =
-          let k : ◌≡◌ {A = Known M} (drawn h) (drawn o.holding) = sym w.0 ∙ o.known in
-          let i : o.holding ≡ h = cc in
-          w.1
-          (subst (λ u. Ends u h.session (event fits L c)) (same_ticket t (ticket_of L t.point h) o.grid (sym o.number ∙ ap (λ g. g.ticket) i) refl)
-          (subst (λ r. Ends t r (event fits L c)) (sym o.session ∙ ap (λ g. g.session) i) z))
-      go (inr w) = end_no_draw t _ s _ _ z w.0
+  freed_now L t s o c z h e = elim (before fits L c t.point h e) [
+    | inl w ↦ let i : o.holding ≡ h = cc (w.0, o.known) in
+        let t_is : t ≡ ticket_of L t.point h = same_ticket t (ticket_of L t.point h) o.grid (cc (o.number, i)) refl in
+        let s_is : s ≡ h.session = cc (o.session, i) in
+        w.1 (subst (λ u. Ends u h.session (event fits L c)) t_is (subst (λ r. Ends t r (event fits L c)) s_is z))
+    | inr w ↦ end_no_draw t _ s _ _ z w.0
+  ]
 
   only_anew : (c : Course M) → OnlyAnew fits c
   only_anew c t s run k z ks h e =
       subst (λ L. SomeIs (DrawnAnew t.point) (history_from fits L ks)) (sym (end_on (make c.figures) c.calls k []))
-      (go (drawn_since (then fits (end fits c) k) t.point h ks (ap (λ L. L.known t.point) (sym (end_on (make c.figures) c.calls k ks)) ∙ e)))
-    where
-      go : ((then fits (end fits c) k).known t.point ≡ drawn h) ⊎ SomeIs (DrawnAnew t.point) (history_from fits (then fits (end fits c) k) ks) → SomeIs (DrawnAnew t.point) (history_from fits (end_from fits (then fits (end fits c) k) []) ks)
-      go (inl q) = absurd (freed_now (end fits c) t s (outstanding_out (make c.figures) c.calls t s run) k z h q)
-      go (inr w) = unfold end_from in w
+      (elim (drawn_since (then fits (end fits c) k) t.point h ks (ap (λ L. L.known t.point) (sym (end_on (make c.figures) c.calls k ks)) ∙ e)) [
+        | inl q ↦ absurd (freed_now (end fits c) t s (outstanding_out (make c.figures) c.calls t s run) k z h q)
+        | inr w ↦ unfold end_from in w
+      ])
 
   pub tickets_hold : TicketsHold fits
   tickets_hold = record { held = holds; void = void; only_anew = only_anew }
@@ -228,8 +210,4 @@ module _ {M : Type 0} (fits : M → Bool) where
       go (inr w) = inr (inr w)
 
   pub out_outstanding : (c : Course M) (p : ℕ) (h : Holding) → (end fits c).known p ≡ drawn h → Outstanding (history fits c) (ticket_of (end fits c) p h) h.session
-  out_outstanding c p h e = go (outstanding_since (make c.figures) p h c.calls e)
-    where
-      go : OutSince (make c.figures) c.calls p h (ticket_of (end fits c) p h) → Outstanding (history fits c) (ticket_of (end fits c) p h) h.session
-      go (inl w) = absurd (free_drawn _ h (new_free c.figures p) w.0)
-      go (inr w) = w
+  out_outstanding c p h e = elim (outstanding_since (make c.figures) p h c.calls e) [ inl w ↦ cc (new_free c.figures p, w.0) | inr w ↦ w ]

@@ -6,11 +6,11 @@ use Rattle.kinds.specs.Halving.{Halving}
 use Rattle.kinds.specs.Integers.{integers, whole_count}
 use Rattle.kinds.specs.IntegersLemmas.{integer_numbers}
 use Rattle.points.specs.Axis.{zeros, width, level, left, right, parent}
-use Rattle.points.specs.Points.{coords, number, every, is_point, level_sum, replaced, parent_in, parents}
+use Rattle.points.specs.Points.{coords, number, is_point, level_sum, replaced, parent_in, parents}
 use Rattle.basis.specs.Lists.{before, choices}
 use Rattle.basis.specs.Axis.{down_from, zero_border, trivial, directions}
 use Rattle.basis.specs.Grid.{places}
-use Rattle.ledger.specs.Ledger.{free, Ledger, is_in, is_out_by, put, inner_places, any, counted, is_held}
+use Rattle.ledger.specs.Ledger.{free, Ledger, is_in, is_out_by, put, inner_places, counted, is_held}
 use Rattle.ledger.specs.Calls.{unless, swept, received, step}
 use Rattle.ledger.specs.Making.{make_by, make}
 use Rattle.ledger.specs.Course.{event, history_from, end_from}
@@ -32,7 +32,7 @@ unfolding received
 freed_after L p x b e = ap (λ v. (received v L p x).after.known p) e ∙ put_at L.known p free p refl
 
 pub worked_courses_lem : (H : Halving integers) → WorkedCourses H
-unfolding answers history_from event step unless make make_by is_in is_out_by put is_held counted inner_places every any zeros width level left right parent coords number is_point level_sum replaced parent_in parents before choices down_from zero_border trivial directions places count_trailing_zeros swept received end_from
+unfolding answers history_from event step unless make make_by is_in is_out_by put is_held counted inner_places zeros width level left right parent coords number is_point level_sum replaced parent_in parents before choices down_from zero_border trivial directions places count_trailing_zeros swept received end_from
 worked_courses_lem H = record {
   last_number_answers = refl;
   two_sessions_answers = rw (fits_whole H 8 (lit≤ tt));

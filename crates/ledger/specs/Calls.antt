@@ -1,6 +1,7 @@
 -- The five calls that change a ledger: what each answers, why it is refused, and the ledger after it.
 use Rattle.std.specs.Prelude.{ℕ, suc, Bool, true, false, cond, not, List, [], ◌∷◌, ◌++◌, Some, None, Option, ◌==◌, nat_eq, nat_le, nat_lt}
-use Rattle.points.specs.Points.{every, parents}
+use Rattle.std.specs.List.{list_all}
+use Rattle.points.specs.Points.{parents}
 use Rattle.points.specs.Refusals.{Cause, cause, first}
 use Rattle.points.specs.declared.refusal.Refusal.{Refusal}
 use Rattle.points.specs.declared.refusal.Refusal.TheVariants.{ZeroNumber, Sample, PointIn, PointOut, ParentNotIn, PlacesFull, TicketsSpent, NoSuchTicket, PointNotIn, ChildKnown}
@@ -73,7 +74,7 @@ module _ {M : Type 0} where
       ++ no_point L.dims p
       ++ cause PointIn (is_in (L.known p))
       ∷ cause PointOut (is_out (L.known p))
-      ∷ cause ParentNotIn (not (every (λ q. is_in (L.known q)) (parents p)))
+      ∷ cause ParentNotIn (not (list_all (λ q. is_in (L.known q)) (parents p)))
       ∷ cause PlacesFull (nat_le L.room (counted is_taken L))
       ∷ cause TicketsSpent (nat_lt 4294967295 L.next)
       ∷ []

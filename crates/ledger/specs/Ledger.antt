@@ -1,5 +1,6 @@
 -- The ledger of a grid: which points are in, with their samples, and which are out, under which tickets.
-use Rattle.std.specs.Prelude.{ℕ, ◌^◌, Bool, true, false, cond, not, ◌&&◌, ◌||◌, List, [], ◌∷◌, map, count_by, ◌==◌, nat_eq, nat_lt}
+use Rattle.std.specs.Prelude.{ℕ, ◌^◌, Bool, true, false, cond, not, ◌&&◌, ◌||◌, List, ◌∷◌, map, count_by, ◌==◌, nat_eq, nat_lt}
+use Rattle.std.specs.List.{list_any}
 use Rattle.points.specs.Points.{number, parents, point_causes, place_causes}
 use Rattle.points.specs.Refusals.{Cause, cause}
 use Rattle.points.specs.declared.refusal.Refusal.TheVariants.{Coordinate}
@@ -34,11 +35,6 @@ pub record Ticket : Type 0 where
 -- all 127^d inner places, by number
 unfoldable pub inner_places : ℕ → List ℕ
 inner_places d = map number (places (four_axes d))
-
--- some element passes the test
-unfoldable pub any : (ℕ → Bool) → List ℕ → Bool
-any f [] = false
-any f (n ∷ ns) = f n || any f ns
 
 module _ {M : Type 0} where
   -- in
@@ -79,7 +75,7 @@ module _ {M : Type 0} where
 
   -- some child of p is in or out: a point of which p is a parent
   unfoldable pub has_child : Ledger M → ℕ → Bool
-  has_child L p = any (λ q. is_taken (L.known q) && any (nat_eq p) (parents q)) (inner_places L.dims)
+  has_child L p = list_any (λ q. is_taken (L.known q) && list_any (nat_eq p) (parents q)) (inner_places L.dims)
 
   -- the ticket's point is out under its grid number and its ticket number
   unfoldable pub is_held : Ledger M → Ticket → Bool

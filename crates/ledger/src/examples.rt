@@ -4,8 +4,6 @@ ghost use Rattle.kinds.specs.Integers.{integers};
 ghost use Rattle.ledger.specs.Examples.{WorkedCourses};
 
 /// Holds by its contract: the answers of four short courses.
-pub fn worked_courses() -> u8
+pub fn worked_courses()
     ensures { (H : Halving integers) → WorkedCourses H }
-{
-    0
-}
+{}

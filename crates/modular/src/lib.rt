@@ -21,6 +21,8 @@ pub struct Modular {
     pub count: u32,
 }
 
+// Written out whole, though the kind of residues differs only in its modulus and its limits: it shows that a kind needs nothing of
+// the library's but the interface.
 impl Kind for Modular {
     ghost group = { residues million };
 
@@ -82,6 +84,7 @@ impl Kind for Modular {
         Some(Modular { count })
     }
 
+    #[tactic(auto, using(kinds::specs::ResiduesLemmas::back_told, kinds::specs::ResiduesLemmas::back_none))]
     fn back(self) -> Option<i32> {
         let least = self.count % MODULUS;
         let below = MODULUS - least;

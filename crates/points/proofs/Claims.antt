@@ -1,6 +1,6 @@
 -- Claims that a test decides, and such a test at all numbers below a bound.
-use Rattle.std.proofs.Common.{◌≡◌, ℕ, zero, suc, ◌<◌, ◌≤◌, Bool, true, false, not, ◌&&◌, ◌||◌, eqb, leb, ◌⊎◌, Some, None, Option, refl, subst, inl, inr, arith}
-use Rattle.std.proofs.lemmas.Bool.{eqb-true, eqb-false, leb-true, not-true, both_ways, and_parts, or_cases, cases_lt}
+use Rattle.std.proofs.Common.{◌≡◌, ℕ, ◌<◌, ◌≤◌, Bool, true, false, not, ◌&&◌, ◌||◌, eqb, leb, ◌⊎◌, Some, None, Option, refl, subst, inl, inr}
+use Rattle.std.proofs.lemmas.Bool.{eqb-true, eqb-false, leb-true, not-true, both_ways, and_parts, or_cases, agree_below, agree_below_at}
 
 -- what a test can decide; `given` is under a test, `some` and `any` are about the value of an option
 pub data Claim : Type 0 where
@@ -44,40 +44,25 @@ test (any None f) = true
 test (any (Some q) f) = test (f q)
 
 -- a claim whose test passes holds
-sound : (f : Claim) → test f ≡ true → Means f
+pub sound : (f : Claim) → test f ≡ true → Means f
 unfolding test
-sound fails t = both_ways false refl t
+sound fails t = cc
 sound (same m n) t = eqb-true m n t
 sound (differ m n) t = eqb-false m n (not-true (eqb m n) t)
 sound (at_most m n) t = leb-true m n t
 sound (holds b) t = t
-sound (given b f) t = λ e. later e (or_cases (not b) (test f) t) (sound f)
-  where
-    later : b ≡ true → (not b ≡ true) ⊎ (test f ≡ true) → (test f ≡ true → Means f) → Means f
-    later e (inl n) go = absurd (both_ways b (not-true b n) e)
-    later e (inr u) go = go u
+sound (given b f) t = λ e. elim (or_cases (not b) (test f) t) [ inl n ↦ absurd (both_ways b (not-true b n) e) | inr u ↦ sound f u ]
 sound (also f g) t = let u = and_parts (test f) (test g) t in (sound f u.0, sound g u.1)
-sound (either f g) t = split (or_cases (test f) (test g) t) (sound f) (sound g)
-  where
-    split : (test f ≡ true) ⊎ (test g ≡ true) → (test f ≡ true → Means f) → (test g ≡ true → Means g) → Means f ⊎ Means g
-    split (inl u) a b = inl (a u)
-    split (inr u) a b = inr (b u)
-sound (some None f) t = absurd (both_ways false refl t)
+sound (either f g) t = elim (or_cases (test f) (test g) t) [ inl u ↦ inl (sound f u) | inr u ↦ inr (sound g u) ]
+sound (some None f) t = cc
 sound (some (Some q) f) t = (q, refl, sound (f q) t)
-sound (any None f) t = λ q e. let z : ◌≡◌ {A = ℕ} 0 1 = cc in absurd (omega arith)
+sound (any None f) t = λ q e. cc
 sound (any (Some p) f) t = λ q e. let s : p ≡ q = cc in subst (λ x. Means (f x)) s (sound (f p) t)
 
 -- the test of f at each number below n
-unfoldable pub tests : ℕ → (ℕ → Claim) → Bool
-tests zero f = true
-tests (suc n) f = test (f n) && tests n f
+abbrev pub tests : ℕ → (ℕ → Claim) → Bool
+tests n f = agree_below (λ k. test (f k)) (λ k. true) n
 
 -- so the claim holds at each number below n
 pub below : (n : ℕ) (f : ℕ → Claim) → tests n f ≡ true → (k : ℕ) → k < n → Means (f k)
-unfolding tests
-below zero f t k h = absurd (omega arith)
-below (suc n) f t k h = let u = and_parts (test (f n)) (tests n f) t in step u.0 (below n f u.1) (cases_lt k n)
-  where
-    step : test (f n) ≡ true → ((j : ℕ) → j < n → Means (f j)) → (k < n) ⊎ (n ≤ k) → Means (f k)
-    step u before (inl l) = before k l
-    step u before (inr l) = let e : n ≡ k = omega arith in subst (λ j. Means (f j)) e (sound (f n) u)
+below n f t k h = sound (f k) (agree_below_at (λ j. test (f j)) (λ j. true) n k t h)

@@ -1,22 +1,18 @@
 -- Levels, parents and children, by tests at the 127 coordinates.
-use Rattle.std.proofs.Common.{◌≡◌, ℕ, ◌+◌, ◌-◌, ◌/◌, ◌<◌, ◌≤◌, Bool, true, false, cond, not, eqb, leb, ◌⊎◌, Some, None, Option, sym, refl, ap, ◌∙◌, subst, inl, inr, arith}
+use Rattle.std.proofs.Common.{◌≡◌, ℕ, zero, suc, ◌+◌, ◌^◌, ◌<◌, ◌≤◌, true, false, cond, not, eqb, leb, Some, None, Option, sym, refl, ap, ◌∙◌, subst, inl, inr, pow_pos, arith}
 use lib.Count.{count_trailing_zeros}
-use Rattle.std.specs.Option.{option_map}
 use Rattle.std.specs.Bool.{then_some}
-use Rattle.std.proofs.lemmas.Bool.{leb-true, le-leb, lt-leb, and_parts, and_from, and_right, cases_Bool, ne_eqb, not_from_false}
+use Rattle.std.proofs.lemmas.Bool.{not-true, le-leb, lt-leb, and_from, and_right, cases_Bool, ne_eqb, not_from_false}
+use Rattle.std.proofs.lemmas.Bool.Decides.{nat_tests}
 use Rattle.points.specs.Axis.{zeros, width, level, left, right, inner, above, parent, children}
 use Rattle.points.specs.Hierarchy.{OneLevelUp, Among, ChildByParent}
 use Rattle.points.proofs.Claims.{Claim, fails, same, at_most, differ, holds, given, also, either, some, any, Means, test, tests, below}
 
 pub inner_bounds : (k : ℕ) → inner k ≡ true → (1 ≤ k) × (k ≤ 127)
-inner_bounds k e = let u = and_parts (leb 1 k) (leb k 127) e in (leb-true 1 k u.0, leb-true k 127 u.1)
+inner_bounds k e = grind (arith, nat_tests)
 
 pub bounds_inner : (k : ℕ) → (1 ≤ k) × (k ≤ 127) → inner k ≡ true
-bounds_inner k b = and_from (leb 1 k) (leb k 127) (le-leb 1 k b.0) (le-leb k 127 b.1)
-
-pub level_le : (k : ℕ) → level k ≤ 7
-unfolding level
-level_le k = omega arith
+bounds_inner k b = grind (arith, nat_tests)
 
 -- a claim that holds of each inner coordinate
 module _ (f : ℕ → Claim) (t : tests 128 (λ k. given (inner k) (f k)) ≡ true) where
@@ -27,9 +23,29 @@ module _ (f : ℕ → Claim) (t : tests 128 (λ k. given (inner k) (f k)) ≡ tr
 abbrev neighbours_fit : ℕ → Claim
 neighbours_fit k = also (at_most (zeros k) 6) (also (at_most (width k) k) (at_most (k + width k) 128))
 
-pub fits : (k : ℕ) → inner k ≡ true → (zeros k ≤ 6) × ((width k ≤ k) × (k + width k ≤ 128))
-unfolding tests test zeros width count_trailing_zeros
+fits : (k : ℕ) → inner k ≡ true → Means (neighbours_fit k)
+unfolding test zeros width count_trailing_zeros
 fits = inside neighbours_fit refl
+
+pub few_zeros : (k : ℕ) → 1 ≤ k → k ≤ 127 → zeros k ≤ 6
+few_zeros k l m = (fits k (bounds_inner k (l, m))).0
+
+pub reach : (k : ℕ) → 1 ≤ k → k ≤ 127 → (width k ≤ k) × (k + width k ≤ 128)
+reach k l m = (fits k (bounds_inner k (l, m))).1
+
+-- and only the neighbours of an inner coordinate are
+pub right_inside : (k : ℕ) → right k ≤ 128 → inner k ≡ true
+unfolding zeros width right count_trailing_zeros
+right_inside zero h = absurd (omega arith)
+right_inside (suc k) h = let w : 1 ≤ 2 ^ zeros (suc k) = pow_pos (zeros (suc k)) in bounds_inner (suc k) (omega arith, omega arith)
+
+-- a coordinate that is not inner has no inner neighbour
+abbrev lone_claim : ℕ → Claim
+lone_claim k = given (not (inner k)) (also (holds (not (inner (left k)))) (holds (not (inner (right k)))))
+
+pub lone : (k : ℕ) → k < 256 → inner k ≡ false → (inner (left k) ≡ false) × (inner (right k) ≡ false)
+unfolding test zeros width left right count_trailing_zeros
+lone k h e = let w = below 256 lone_claim refl k h (ap not e) in (not-true (inner (left k)) w.0, not-true (inner (right k)) w.1)
 
 abbrev deep_claim : ℕ → Claim
 deep_claim k = given (not (eqb k 64)) (at_most 2 (level k))
@@ -41,11 +57,11 @@ sole_claim k =
     (either (also (same q (left k)) (differ (level (right k) + 1) (level k))) (also (same q (right k)) (differ (level (left k) + 1) (level k)))))))
 
 sole_inside : (k : ℕ) → inner k ≡ true → Means (sole_claim k)
-unfolding tests test zeros width level left right parent count_trailing_zeros
+unfolding test zeros width level left right parent count_trailing_zeros
 sole_inside = inside sole_claim refl
 
 deep_inside : (k : ℕ) → inner k ≡ true → Means (deep_claim k)
-unfolding tests test zeros width level count_trailing_zeros
+unfolding test zeros width level count_trailing_zeros
 deep_inside = inside deep_claim refl
 
 pub one_level_up : OneLevelUp
@@ -70,7 +86,7 @@ abbrev only_claim : ℕ → Claim
 only_claim q = any (parent q) (λ k. among q (children k))
 
 only_inside : (q : ℕ) → inner q ≡ true → Means (only_claim q)
-unfolding tests test zeros width level left right parent children count_trailing_zeros
+unfolding test zeros width level left right parent children count_trailing_zeros
 only_inside = inside only_claim refl
 
 -- k is the parent of both
@@ -84,7 +100,7 @@ both_means k q (Some c) w (inl e) = ap parent e ∙ w.0.1 ∙ ap Some w.0.2
 both_means k q (Some c) w (inr e) = ap parent e ∙ w.1.1 ∙ ap Some w.1.2
 
 all_inside : (k : ℕ) → inner k ≡ true → Means (both k (children k))
-unfolding tests test zeros width level left right parent children count_trailing_zeros
+unfolding test zeros width level left right parent children count_trailing_zeros
 all_inside = inside (λ k. both k (children k)) refl
 
 -- the border has no parent and no children
@@ -97,15 +113,10 @@ unfolding children
 no_children k e = rw e
 
 pub child_by_parent : ChildByParent
-child_by_parent = record { only = λ k q e. only k q e (cases_Bool (inner q)); all = λ k q a. all k q a (cases_Bool (inner k)) }
-  where
-    only : (k q : ℕ) → parent q ≡ Some k → (inner q ≡ true) ⊎ (inner q ≡ false) → Among q (children k)
-    only k q e (inl i) = among_means q (children k) (only_inside q i k e)
-    only k q e (inr i) = let n = no_parent q i in let z : ◌≡◌ {A = ℕ} 0 1 = cc in absurd (omega arith)
-
-    all : (k q : ℕ) → Among q (children k) → (inner k ≡ true) ⊎ (inner k ≡ false) → parent q ≡ Some k
-    all k q a (inl i) = both_means k q (children k) (all_inside k i) a
-    all k q a (inr i) = absurd (subst (Among q) (no_children k i) a)
+child_by_parent = record {
+  only = λ k q e. elim (cases_Bool (inner q)) [ inl i ↦ among_means q (children k) (only_inside q i k e) | inr i ↦ cc (no_parent q i) ];
+  all = λ k q a. elim (cases_Bool (inner k)) [ inl i ↦ both_means k q (children k) (all_inside k i) a | inr i ↦ absurd (subst (Among q) (no_children k i) a) ];
+}
 
 -- what the code finds: the parent by the two neighbours, and the children by half the width
 pub none_above : (k : ℕ) → level k < 2 → None ≡ parent k
@@ -119,36 +130,5 @@ deep_parent k i h = rw (and_from (inner k) (leb 2 (level k)) i (le-leb 2 (level 
 pub found_above : (k x : ℕ) → inner k ≡ true → 2 ≤ level k → x ≡ cond (above (left k) k) (left k) (right k) → then_some (inner x) x ≡ parent k
 found_above k x i h e =
     let w = one_level_up.sole k i h in
-    let p = deep_parent k i h in
-    let q = w.1 in
-    let s : x ≡ w.0 = cc in
-    ap (λ b. then_some b x) (ap inner s ∙ w.2.inside) ∙ ap Some s ∙ sym q
-
-pub none_below : (k : ℕ) → width k < 2 → None ≡ children k
-unfolding children
-none_below k h = rw (and_right (inner k) (leb 2 (width k)) (lt-leb 2 (width k) h))
-
-pub found_below : (k w : ℕ) → inner k ≡ true → w ≡ width k → 2 ≤ w → Some (k - w / 2, k + w / 2) ≡ children k
-unfolding children
-found_below k w i e h =
-    let l : 2 ≤ width k = omega arith in
-    rw (and_from (inner k) (leb 2 (width k)) i (le-leb 2 (width k) l)) (ap (λ v. Some (k - v / 2, k + v / 2)) e)
-
--- what a test for an inner coordinate came to
-pub not_inner : (k : ℕ) → None ≡ then_some (inner k) k → inner k ≡ false
-not_inner k e = go (inner k) e
-  where
-    go : (b : Bool) → None ≡ then_some b k → b ≡ false
-    go true n = let z : ◌≡◌ {A = ℕ} 0 1 = cc in absurd (omega arith)
-    go false n = refl
-
-is_inner : (k v : ℕ) → Some v ≡ then_some (inner k) k → v ≡ k
-is_inner k v e = go (inner k) e
-  where
-    go : (b : Bool) → Some v ≡ then_some b k → v ≡ k
-    go true s = cc
-    go false s = let z : ◌≡◌ {A = ℕ} 0 1 = cc in absurd (omega arith)
-
--- so a value found at v, which the test gave, is the one at k
-pub found_at : {X Y : Type 0} (at : ℕ → Option X) (f : X → Y) (k v : ℕ) (o : Option X) → Some v ≡ then_some (inner k) k → o ≡ at v → option_map f o ≡ option_map f (at k)
-found_at at f k v o e r = ap (option_map f) (r ∙ ap at (is_inner k v e))
+    let s : x ≡ w.0 = cc (deep_parent k i h, w.1, e) in
+    ap (λ b. then_some b x) (ap inner s ∙ w.2.inside) ∙ ap Some s ∙ sym w.1

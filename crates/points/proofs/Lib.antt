@@ -1,4 +1,3 @@
-pub mod Causes
 pub mod Claims
 pub mod Hierarchy
 pub mod Points

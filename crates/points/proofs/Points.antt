@@ -1,20 +1,16 @@
 -- Points as numbers and as coordinates.
-use Rattle.std.proofs.Common.{◌≡◌, ℕ, ◌+◌, ◌*◌, ◌/◌, ◌%◌, ◌^◌, ◌<◌, ◌≤◌, Bool, true, false, ◌&&◌, leb, List, [], ◌∷◌, length, get_or, drop, refl, ap, ◌∙◌, ap₂, arith}
+use Rattle.std.proofs.Common.{◌≡◌, ℕ, zero, suc, ◌/◌, ◌%◌, ◌^◌, ◌<◌, false, List, [], ◌∷◌, length, None, refl, ap₂, arith}
 use Rattle.std.specs.List.{AllByRecursion}
-use Rattle.std.proofs.lemmas.List.{at_drop_more, at_drop_all}
-use Rattle.std.proofs.lemmas.Bool.{le-leb, lt-leb, and_from, and_left, and_right}
-use Rattle.points.specs.Axis.{within}
-use Rattle.points.specs.Points.{coords, number, Numbered, every}
+use Rattle.std.specs.Bool.{then_some}
+use Rattle.std.proofs.lemmas.Bool.{false_from_ne_true}
+use Rattle.points.specs.Axis.{left, right, inner}
+use Rattle.points.specs.Points.{coords, number, Numbered, coord_in, neighbour_in}
+use Rattle.points.proofs.Hierarchy.{lone}
 
--- four coordinates have the number that their bytes have
-pub number_four : (ks : List ℕ) → length ks ≡ 4 → number ks ≡ get_or ks 0 0 * 16777216 + get_or ks 1 0 * 65536 + get_or ks 2 0 * 256 + get_or ks 3 0
-unfolding number
-number_four [] e = absurd (omega arith)
-number_four (a ∷ []) e = absurd (omega arith)
-number_four (a ∷ b ∷ []) e = absurd (omega arith)
-number_four (a ∷ b ∷ c ∷ []) e = absurd (omega arith)
-number_four (a ∷ b ∷ c ∷ d ∷ []) e = omega arith
-number_four (a ∷ b ∷ c ∷ d ∷ x ∷ ks) e = absurd (omega arith)
+-- a number has four coordinates
+pub coords_length : (n : ℕ) → length (coords n) ≡ 4
+unfolding coords
+coords_length n = refl
 
 number_coords : (n : ℕ) → n < 2 ^ 32 → number (coords n) ≡ n
 unfolding number coords
@@ -35,25 +31,23 @@ coords_number (a ∷ b ∷ c ∷ d ∷ x ∷ ks) e h = absurd (omega arith)
 pub numbered : Numbered
 numbered = record { back = number_coords; again = coords_number }
 
--- a walk along a list that looks for one that fails
-module _ (f : ℕ → Bool) (ks : List ℕ) (i : ℕ) where
-  pub every_more : i < length ks → f (get_or ks i 0) ≡ true → every f (drop i ks) ≡ every f (drop (i + 1) ks)
-  unfolding every
-  every_more h e = at_drop_more (every f) ks i 0 h ∙ ap (λ b. b && every f (drop (i + 1) ks)) e
+-- each coordinate is a byte
+coord_small : (i p : ℕ) → coord_in i p < 256
+unfolding coords
+coord_small zero p = omega arith
+coord_small (suc zero) p = omega arith
+coord_small (suc (suc zero)) p = omega arith
+coord_small (suc (suc (suc zero))) p = omega arith
+coord_small (suc (suc (suc (suc i)))) p = omega arith
 
-  pub every_stop : i < length ks → f (get_or ks i 0) ≡ false → every f (drop i ks) ≡ false
-  unfolding every
-  every_stop h e = at_drop_more (every f) ks i 0 h ∙ ap (λ b. b && every f (drop (i + 1) ks)) e
+-- where the coordinate is not inner, there is no neighbour
+not_inner : (k : ℕ) → None ≡ then_some (inner k) k → inner k ≡ false
+not_inner k e = false_from_ne_true (inner k) (λ t. cc)
 
-  pub every_all : length ks ≤ i → every f (drop i ks) ≡ true
-  unfolding every
-  every_all h = at_drop_all (every f) ks i h
+pub no_left : (i p : ℕ) → None ≡ then_some (inner (coord_in i p)) (coord_in i p) → None ≡ neighbour_in left i p
+unfolding neighbour_in
+no_left i p e = let k = coord_in i p in let w = lone k (coord_small i p) (not_inner k e) in rw w.0
 
-pub within_true : (low high k : ℕ) → low ≤ k → k ≤ high → within low high k ≡ true
-within_true low high k l h = and_from (leb low k) (leb k high) (le-leb low k l) (le-leb k high h)
-
-pub within_low : (low high k : ℕ) → k < low → within low high k ≡ false
-within_low low high k h = and_left (leb low k) (leb k high) (lt-leb low k h)
-
-pub within_high : (low high k : ℕ) → high < k → within low high k ≡ false
-within_high low high k h = and_right (leb low k) (leb k high) (lt-leb k high h)
+pub no_right : (i p : ℕ) → None ≡ then_some (inner (coord_in i p)) (coord_in i p) → None ≡ neighbour_in right i p
+unfolding neighbour_in
+no_right i p e = let k = coord_in i p in let w = lone k (coord_small i p) (not_inner k e) in rw w.1

@@ -1,7 +1,8 @@
 -- Points and places of a grid of d dimensions, each as one number of 32 bits: four coordinates, the first in front, of which the first d are used.
-use Rattle.std.specs.Prelude.{◌≡◌, ℕ, ◌+◌, ◌*◌, ◌/◌, ◌%◌, ◌^◌, ◌<◌, Bool, true, not, ◌&&◌, List, [], ◌∷◌, length, take, drop, sum_by, Option, nat_eq, nat_lt, slice_index, slice_set}
-use Rattle.std.specs.List.{flat_map, AllByRecursion}
+use Rattle.std.specs.Prelude.{◌≡◌, ℕ, ◌+◌, ◌*◌, ◌/◌, ◌%◌, ◌^◌, ◌<◌, Bool, not, ◌&&◌, List, [], ◌∷◌, length, take, drop, sum_by, Option, nat_eq, nat_lt, slice_index, slice_set}
+use Rattle.std.specs.List.{list_all, flat_map, AllByRecursion}
 use Rattle.std.specs.Option.{option_map, option_to_list}
+use Rattle.std.specs.Bool.{then_some}
 use Rattle.points.specs.Axis.{level, within, inner, parent, children}
 use Rattle.points.specs.Refusals.{Cause, cause}
 use Rattle.points.specs.declared.refusal.Refusal.TheVariants.{Dimensions, Coordinate, LevelSum}
@@ -20,14 +21,9 @@ pub record Numbered : Type 0 where
   pub back : (n : ℕ) → n < 2 ^ 32 → number (coords n) ≡ n
   pub again : (ks : List ℕ) → length ks ≡ 4 → AllByRecursion (λ k. k < 256) ks → coords (number ks) ≡ ks
 
--- each element passes the test
-unfoldable pub every : (ℕ → Bool) → List ℕ → Bool
-every f [] = true
-every f (k ∷ ks) = f k && every f ks
-
 -- the used coordinates of a number pass the test, and the others are 0
 abbrev pub shaped : (ℕ → Bool) → ℕ → ℕ → Bool
-shaped f d n = every f (take d (coords n)) && every (λ k. nat_eq k 0) (drop d (coords n))
+shaped f d n = list_all f (take d (coords n)) && list_all (λ k. nat_eq k 0) (drop d (coords n))
 
 -- used coordinates that are inner
 unfoldable pub is_point : ℕ → ℕ → Bool
@@ -48,6 +44,10 @@ coord_in i p = slice_index (coords p) i
 -- the number with another coordinate in the direction i
 unfoldable pub replaced : ℕ → ℕ → ℕ → ℕ
 replaced i p k = number (slice_set (coords p) i k)
+
+-- the neighbour on a side, left or right, in the direction i; none where that is on the border
+unfoldable pub neighbour_in : (ℕ → ℕ) → ℕ → ℕ → Option ℕ
+neighbour_in side i p = option_map (replaced i p) (then_some (inner (side (coord_in i p))) (side (coord_in i p)))
 
 -- the parent in the direction i, if the coordinate there has one
 unfoldable pub parent_in : ℕ → ℕ → Option ℕ

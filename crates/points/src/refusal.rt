@@ -5,76 +5,54 @@ ghost use Rattle.points.specs.Refusals.{number_of};
 #[derive(Clone, Copy, PartialEq, Eq, Debug)]
 pub enum Refusal {
     /// The number of dimensions is not 1 to 4.
-    Dimensions,
+    Dimensions = 1,
     /// The point places are not 1 to 4,096, or the lookup entries are fewer.
-    Memory,
+    Memory = 2,
     /// A grid number, a first ticket number or a session is 0.
-    ZeroNumber,
+    ZeroNumber = 3,
     /// A coordinate is not 1 to 127, one of a place is not 0 to 128, or an unused one is not 0.
-    Coordinate,
+    Coordinate = 4,
     /// The level sum passes 16.
-    LevelSum,
+    LevelSum = 5,
     /// The sample does not fit, or its numeral is outside the range.
-    Sample,
+    Sample = 6,
     /// The text breaks its form.
-    Form,
+    Form = 7,
     /// The text has another number of dimensions than the grid.
-    OtherDimensions,
+    OtherDimensions = 8,
     /// The unit word is not 1 to 16 letters.
-    UnitWord,
+    UnitWord = 9,
     /// The program's input passes 32,768 bytes.
-    InputLength,
+    InputLength = 10,
     /// The point is in.
-    PointIn,
+    PointIn = 20,
     /// The point is out.
-    PointOut,
+    PointOut = 21,
     /// A parent is not in.
-    ParentNotIn,
+    ParentNotIn = 22,
     /// The points in and out fill the places.
-    PlacesFull,
+    PlacesFull = 23,
     /// The next ticket number passes 4,294,967,295.
-    TicketsSpent,
+    TicketsSpent = 24,
     /// No point is out under this ticket.
-    NoSuchTicket,
+    NoSuchTicket = 25,
     /// The point is not in.
-    PointNotIn,
+    PointNotIn = 26,
     /// A child is in or out.
-    ChildKnown,
+    ChildKnown = 27,
     /// The grid to be read into has something in or out.
-    GridNotEmpty,
+    GridNotEmpty = 28,
     /// The written text is longer than the buffer.
-    BufferLength,
+    BufferLength = 29,
     /// A sample to be written has no back.
-    NoNumeral,
+    NoNumeral = 30,
 }
 
-impl Refusal {
-    /// The number of this refusal.
-    pub fn number(self) -> u32
-        ensures { result ≡ number_of self }
-    {
-        match self {
-            Refusal::Dimensions => 1,
-            Refusal::Memory => 2,
-            Refusal::ZeroNumber => 3,
-            Refusal::Coordinate => 4,
-            Refusal::LevelSum => 5,
-            Refusal::Sample => 6,
-            Refusal::Form => 7,
-            Refusal::OtherDimensions => 8,
-            Refusal::UnitWord => 9,
-            Refusal::InputLength => 10,
-            Refusal::PointIn => 20,
-            Refusal::PointOut => 21,
-            Refusal::ParentNotIn => 22,
-            Refusal::PlacesFull => 23,
-            Refusal::TicketsSpent => 24,
-            Refusal::NoSuchTicket => 25,
-            Refusal::PointNotIn => 26,
-            Refusal::ChildKnown => 27,
-            Refusal::GridNotEmpty => 28,
-            Refusal::BufferLength => 29,
-            Refusal::NoNumeral => 30,
-        }
+/// The number of a refusal.
+impl From<Refusal> for u32 {
+    ghost from_gives = { λ refusal n. n ≡ number_of refusal };
+
+    fn from(refusal: Refusal) -> u32 {
+        refusal as u32
     }
 }

@@ -1,7 +1,7 @@
 // Examples worked out by hand, run.
 use super::axis::Coordinate;
 use super::dimensions::Dims;
-use super::point::{check_place, check_point, children_in, level_sum, number_of, parent_in};
+use super::point::{children_in, neighbours_in, number_of, parent_in};
 use super::refusal::Refusal;
 use std::test::Fail;
 
@@ -20,22 +20,22 @@ fn coordinate_of_level_three(rt: HostRuntime) -> Result<(), Fail> {
 #[test]
 fn points_and_places_are_checked(rt: HostRuntime) -> Result<(), Fail> {
     let dims = Dims::new(3)?;
-    assert_eq!(rt; level_sum(dims, number_of([127, 127, 32, 0])), 16);
-    assert_eq!(rt; check_point(dims, number_of([127, 127, 32, 0])), Ok(()));
+    assert_eq!(rt; dims.level_sum(number_of([127, 127, 32, 0])), 16);
+    assert_eq!(rt; dims.check_point(number_of([127, 127, 32, 0])), Ok(()));
     assert_eq!(rt;
-        check_point(dims, number_of([127, 127, 16, 0])),
+        dims.check_point(number_of([127, 127, 16, 0])),
         Err(Refusal::LevelSum)
     );
     assert_eq!(rt;
-        check_point(dims, number_of([64, 64, 64, 64])),
+        dims.check_point(number_of([64, 64, 64, 64])),
         Err(Refusal::Coordinate)
     );
-    assert_eq!(rt; check_place(dims, number_of([0, 128, 5, 0])), Ok(()));
+    assert_eq!(rt; dims.check_place(number_of([0, 128, 5, 0])), Ok(()));
     assert_eq!(rt;
-        check_place(dims, number_of([0, 129, 5, 0])),
+        dims.check_place(number_of([0, 129, 5, 0])),
         Err(Refusal::Coordinate)
     );
-    assert_eq!(rt; Refusal::NoNumeral.number(), 30);
+    assert_eq!(rt; u32::from(Refusal::NoNumeral), 30);
     Ok(())
 }
 
@@ -49,4 +49,21 @@ fn parents_and_children_by_number(rt: HostRuntime) {
         Some((number_of([64, 40, 0, 0]), number_of([64, 56, 0, 0])))
     );
     assert_eq!(rt; children_in(4, point), None);
+}
+
+#[test]
+fn neighbours_by_number(rt: HostRuntime) {
+    let point = number_of([64, 48, 0, 0]);
+    assert_eq!(rt;
+        neighbours_in(1, point),
+        (
+            Some(number_of([64, 32, 0, 0])),
+            Some(number_of([64, 64, 0, 0]))
+        )
+    );
+    assert_eq!(rt; neighbours_in(0, point), (None, None));
+    assert_eq!(rt;
+        neighbours_in(2, number_of([64, 64, 96, 0])),
+        (Some(number_of([64, 64, 64, 0])), None)
+    );
 }

@@ -7,6 +7,7 @@ use text::cursor::Cursor;
 use text::number::numeral_value;
 use text::token::Token;
 
+// That a step goes on is a clause of each: it is about the cursor before and after, which no invariant can be.
 /// Takes a text apart by its form. A fault ends the reading, so that where the cursor stands then is left open.
 #[derive(Drop)]
 pub(crate) struct Parser<'a> {
@@ -24,6 +25,7 @@ impl<'a> Parser<'a> {
         }
     }
 
+    // Each of those below says which token it accepts: a closure for that would be as long as what they share.
     /// Passes over one of the marks.
     pub(crate) fn mark(&mut self, wanted: Token<'a>) -> Result<(), FormFault>
         ensures { OnOk result (Onward self.old.at self.new.at) }

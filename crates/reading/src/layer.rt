@@ -4,6 +4,7 @@ ghost use Rattle.reading.specs.Layer.{layer_of, place_of, cause_of, line_of, let
 
 use crate::fault::{FileFault, FormFault};
 use points::refusal::Refusal;
+use std::fmt;
 use text::token::TokenRule;
 
 /// The layer of a text at which it is refused.
@@ -33,13 +34,21 @@ impl From<Layer> for char {
     }
 }
 
-/// A refused reading: the refusal, its line, counted from 1, its byte, counted from 0, and its layer.
+/// A refused reading: the refusal, its line, counted from 1, or 0 where no line is read yet, its byte, counted from 0, and its layer.
 #[derive(Clone, Copy, PartialEq, Eq, Debug)]
 pub struct ReadRefusal {
     pub refusal: Refusal,
     pub line: usize,
     pub byte: usize,
     pub layer: Layer,
+}
+
+impl fmt::Display for ReadRefusal {
+    fn fmt<W: fmt::Write>(&self, f: &mut fmt::Formatter<W>) -> fmt::Result {
+        let number = u32::from(self.refusal);
+        let letter = char::from(self.layer);
+        writeln!(f, "(refused {number} {} {} {letter})", self.line, self.byte)
+    }
 }
 
 impl FileFault {

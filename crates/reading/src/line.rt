@@ -9,6 +9,7 @@ use points::dimensions::Dims;
 use text::token::Token;
 
 /// The numbers of a point line; coordinates past the grid's dimensions are 0.
+// Four coordinates for any number of dimensions, as a point has, and no memory to ask for.
 #[derive(Clone, Copy)]
 pub(crate) struct PointLine {
     pub(crate) coordinates: [i32; 4],
@@ -16,6 +17,8 @@ pub(crate) struct PointLine {
 }
 
 impl<'a> Parser<'a> {
+    // Lines 1 and 2 share `open` and `close`; what is left of each is its item. The dimensions are no field of the parser, which
+    // reads line 1 before it knows them.
     /// Line 1, `(grid d)`, by its numeral.
     pub(crate) fn grid_line(&mut self) -> Result<i32, FormFault>
         ensures { OnOk result (Onward self.old.at self.new.at) }

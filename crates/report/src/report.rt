@@ -5,6 +5,7 @@ use grid::record::Record;
 use kinds::dyadic::Dyadic;
 use kinds::pair::Pair;
 use kinds::residue::Residue;
+use points::dimensions::Dims;
 use points::refusal::Refusal;
 use reading::layer::{Layer, ReadRefusal};
 use reading::reader::{dimensions, read};
@@ -15,58 +16,41 @@ use store::{Entry, Store};
 /// The longest input, in bytes.
 const LONGEST_INPUT: usize = 32_768;
 
+// The memory that the grid is lent is of fixed size, since the number of places is.
 /// The point places of the program's grid.
 const PLACES: usize = 512;
 
 /// The lookup entries of the program's grid.
 const ENTRIES: usize = 1_024;
 
-/// What a report says.
-#[derive(Clone, Copy)]
-pub enum Report {
-    Integral {
-        points: usize,
-        numerator: i64,
-        exponent: u32,
-        control: u32,
-    },
-    Refused(ReadRefusal),
+/// What is told of a text that is read: how many points it has, the integral in lowest terms, and its residue as a control.
+#[derive(Clone, Copy, PartialEq, Eq, Debug)]
+pub struct Summary {
+    pub points: usize,
+    pub numerator: i64,
+    pub exponent: u32,
+    pub control: u32,
 }
 
-impl fmt::Display for Report {
+impl fmt::Display for Summary {
     fn fmt<W: fmt::Write>(&self, f: &mut fmt::Formatter<W>) -> fmt::Result {
-        match *self {
-            Report::Integral {
-                points,
-                numerator,
-                exponent,
-                control,
-            } => {
-                writeln!(f, "(points {points})")?;
-                writeln!(f, "(integral {numerator} {exponent})")?;
-                writeln!(f, "(control {control})")
-            }
-            Report::Refused(refused) => {
-                let number = refused.refusal.number();
-                let line = refused.line;
-                let byte = refused.byte;
-                let layer = char::from(refused.layer);
-                writeln!(f, "(refused {number} {line} {byte} {layer})")
-            }
-        }
+        writeln!(f, "(points {})", self.points)?;
+        writeln!(f, "(integral {} {})", self.numerator, self.exponent)?;
+        writeln!(f, "(control {})", self.control)
     }
 }
 
-/// A grid of so many dimensions for the text, and its integral.
-fn integral_of(text: &[u8], dims: u32) -> Result<Report, ReadRefusal> {
+/// A grid of so many dimensions for the text, and what is told of it.
+fn summary_of(text: &[u8], dims: Dims) -> Result<Summary, ReadRefusal> {
     let mut records: [Record<Pair<Dyadic, Residue>>; PLACES] = [Record::blank(); PLACES];
     let mut entries = [Entry::blank(); ENTRIES];
     let mut store = Store::new(0, &mut records, &mut entries);
-    let mut grid = Grid::new(dims, 1, 1, &mut store);
+    // A grid is made with any figures, so that it takes a number here.
+    let mut grid = Grid::new(u32::from(dims.count()), 1, 1, &mut store);
     let points = read(text, &mut grid)?;
     let integral = grid.integral();
     let (numerator, exponent) = lowest_terms(integral.first.count);
-    Ok(Report::Integral {
+    Ok(Summary {
         points,
         numerator,
         exponent,
@@ -84,28 +68,22 @@ fn refused_at(refusal: Refusal, line: usize, layer: Layer) -> ReadRefusal {
     }
 }
 
-fn try_report(input: &[u8]) -> Result<Report, ReadRefusal> {
+/// The report on an input: what is told of its grid, or why it is refused.
+pub fn report_on(input: &[u8]) -> Result<Summary, ReadRefusal> {
     if input.len() > LONGEST_INPUT {
         return Err(refused_at(Refusal::InputLength, 0, Layer::End));
     }
-    match dimensions(input)? {
-        1 => integral_of(input, 1),
-        2 => integral_of(input, 2),
-        3 => integral_of(input, 3),
-        4 => integral_of(input, 4),
-        _ => Err(refused_at(Refusal::Dimensions, 1, Layer::Grid)),
-    }
-}
-
-/// The report on an input.
-pub fn report_on(input: &[u8]) -> Report {
-    match try_report(input) {
-        Ok(report) => report,
-        Err(refused) => Report::Refused(refused),
-    }
+    let dims = u32::try_from(dimensions(input)?)
+        .map_err(|_| Refusal::Dimensions)
+        .and_then(Dims::new)
+        .map_err(|refusal| refused_at(refusal, 1, Layer::Grid))?;
+    summary_of(input, dims)
 }
 
 /// The bytes that the program prints for an input.
 pub fn printed(heap: Global, input: &[u8]) -> Result<String, AllocError> {
-    report_on(input).to_string(heap)
+    match report_on(input) {
+        Ok(summary) => summary.to_string(heap),
+        Err(refusal) => refusal.to_string(heap),
+    }
 }
