@@ -4,14 +4,10 @@
 use report::report::printed;
 use std::io::Read;
 
-fn run(rt: &HostRuntime) -> anyhow::Result<()> {
+fn main(rt: HostRuntime) -> anyhow::Result<()> {
     let mut input = Vec::new(rt.alloc());
     rt.stdin().read_to_end(&mut input)?;
-    let text = printed(rt.alloc(), input.as_slice())?;
-    rt.print(text.as_str())?;
+    let report = printed(rt.alloc(), input.as_slice())?;
+    rt.print(report.as_str())?;
     Ok(())
-}
-
-fn main(rt: HostRuntime) -> anyhow::Result<()> {
-    run(&rt)
 }
