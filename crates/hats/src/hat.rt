@@ -42,7 +42,8 @@ pub fn numerator(k: Coordinate, y: u8) -> u8
     numerator_of(k.get(), y) as u8
 }
 
-// What bounds the sum and the product below is the length of a slice, which has no type of its own.
+// What bounds the sum and the product below is the length of a slice, which has no type of its own. They differ from one another, and
+// from the sum of levels in points, in what they add or multiply: one function over a closure would be as long.
 /// The exponents of at most four coordinates together.
 fn exponents_together(coordinates: &[u8]) -> u32
     requires { length coordinates.now ≤ 4 }

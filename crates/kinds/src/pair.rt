@@ -35,7 +35,7 @@ impl<A: Kind, B: Kind> Kind for Pair<A, B> {
         }
     }
 
-    // Each of the operations below names its parts' answers in place: a function of two answers would work out the second for nothing
+    // The operations that answer a pair name their parts' answers in place: a function of two answers would work out the second for nothing
     // where the first is none.
     fn sum(self, other: Pair<A, B>) -> Option<Pair<A, B>> {
         if limits::pass_together(self.size(), other.size()) {

@@ -29,6 +29,7 @@ pub fn number_of(coordinates: [u8; 4]) -> u32
     u32::from_be_bytes(coordinates)
 }
 
+// The sum of exponents in hats differs in what it adds, and one function for both would be as long.
 /// The levels of coordinates together.
 fn levels_together(coordinates: &[u8]) -> u32
     requires { length coordinates.now ≤ 4 }

@@ -21,6 +21,7 @@ pub fn read<K: Kind>(text: &[u8], grid: &mut Grid<'_, '_, K>) -> Result<usize, R
     if !grid.is_empty() {
         return Err(ReadRefusal {
             refusal: Refusal::GridNotEmpty,
+            // No line is read yet.
             line: 0,
             byte: 0,
             layer: Layer::Grid,

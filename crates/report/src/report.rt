@@ -71,6 +71,7 @@ fn refused_at(refusal: Refusal, line: usize, layer: Layer) -> ReadRefusal {
 /// The report on an input: what is told of its grid, or why it is refused.
 pub fn report_on(input: &[u8]) -> Result<Summary, ReadRefusal> {
     if input.len() > LONGEST_INPUT {
+        // No line is read yet: line 0.
         return Err(refused_at(Refusal::InputLength, 0, Layer::End));
     }
     let dims = u32::try_from(dimensions(input)?)

@@ -15,6 +15,8 @@ use super::picks::Picks;
 use super::table::Table;
 
 impl<'m, S: Copy> Store<'m, S> {
+    // That nothing is held is told of the items and of every state by `new`, `reset` and `clear`: other calls put points in, so that it is
+    // no invariant.
     /// A store that holds nothing, with room for `room` points, or for none where a slice is shorter than that.
     pub fn new(room: usize, records: &'m mut [S], entries: &'m mut [Entry]) -> Store<'m, S>
         ensures empty { items result ≡ [] }
@@ -73,7 +75,8 @@ impl<'m, S: Copy> Store<'m, S> {
         }
     }
 
-    // That the capacity stays is a clause of each call below: it is about the store before and after, which no invariant can be.
+    // That the capacity stays is a clause of each call below that changes the store, and of `clear`: it is about the store before and
+    // after, which no invariant can be.
     /// Gives a state to a point that has none.
     pub fn insert(&mut self, point: u32, state: S) -> Result<(), InsertFault>
         ensures answer { InsertAnswer (items self.old) (items self.new) (capacity self.old) point state result }

@@ -11,7 +11,7 @@ pub(crate) enum Slot {
     At(usize),
 }
 
-// Numbers lead from entry to entry, since the memory is lent.
+// Two halves in one entry, and numbers that lead from entry to entry: the memory is lent as one slice.
 /// The entry of number i has the slot i of the hash table, and of the record i the point and the slot that leads to it, its home.
 #[derive(Clone, Copy)]
 pub struct Entry {
