@@ -1,8 +1,6 @@
 -- Lemmas that several proofs share. `Facts` serves the crates above too.
 mod Pigeon
 mod Ways
-mod Rounds
-mod Vacancies
 mod Searches
 mod Writes
 mod Adding

@@ -1,6 +1,6 @@
 -- The index of the records, which is a hash table with linear probing. It is a list of entries: the entry of number i has the
 -- slot i of the hash table, and of the record i the point and the home, which is the slot that leads to it.
-use Rattle.std.specs.Prelude.{◌≡◌, ℕ, ◌+◌, ◌-◌, ◌*◌, ◌/◌, ◌%◌, ◌^◌, ◌<◌, ◌≤◌, Bool, true, false, cond, List, length, ◌≢◌, nat_lt, slice_index_or}
+use Rattle.std.specs.Prelude.{◌≡◌, ℕ, ◌+◌, ◌-◌, ◌*◌, ◌/◌, ◌%◌, ◌^◌, ◌<◌, ◌≤◌, Bool, true, false, cond, List, length, Some, None, Option, ◌≢◌, nat_lt, slice_index_or}
 use Rattle.store.specs.declared.entry.Entry.{Entry}
 use Rattle.store.specs.declared.entry.Slot.{Slot}
 use Rattle.store.specs.declared.entry.Slot.TheVariants.{Empty, Gone, At}
@@ -49,6 +49,16 @@ Absent es used p = (i : ℕ) → i < used → point_at es i ≢ p
 abbrev pub Place : List Entry → ℕ → ℕ → ℕ → Type 0
 Place es used p i = (i < used) × (point_at es i ≡ p)
 
+-- no slot from a to b leads to a record with the point p
+abbrev pub Clear : List Entry → ℕ → ℕ → ℕ → Type 0
+Clear es p a b = (k i : ℕ) → a ≤ k → k < b → slot_at es k ≡ At i → point_at es i ≢ p
+
+-- how a search for p ends in the slots from a to b: at its record, at an empty slot, or not there
+abbrev pub Scanned : List Entry → ℕ → ℕ → ℕ → ℕ → Option (Option ℕ) → Type 0
+Scanned es used p a b (Some (Some i)) = Place es used p i
+Scanned es used p a b (Some None) = (j : ℕ) × (a ≤ j) × (j < b) × (slot_at es j ≡ Empty) × Clear es p a j
+Scanned es used p a b None = Clear es p a b
+
 -- whether a slot leads to a record
 abbrev pub taken : Slot → Bool
 taken Empty = false
@@ -58,6 +68,10 @@ taken (At i) = true
 -- each slot from a to b is taken
 abbrev pub Taken : List Entry → ℕ → ℕ → Type 0
 Taken es a b = (k : ℕ) → a ≤ k → k < b → taken (slot_at es k) ≡ true
+
+-- j is the first slot from a to b that is not taken
+abbrev pub Vacancy : List Entry → ℕ → ℕ → ℕ → Type 0
+Vacancy es a b j = (a ≤ j) × (j < b) × (taken (slot_at es j) ≡ false) × Taken es a j
 
 -- j is the first slot that is not taken, on the way from a
 pub record Free (es : List Entry) (a j : ℕ) : Type 0 where
