@@ -8,10 +8,14 @@ use points::dimensions::Dims;
 impl<'g, 'm, K: Kind> Grid<'g, 'm, K> {
     /// How many points are in.
     pub fn count(&self) -> usize {
-        self.store
-            .iter()
-            .filter(|(_, record)| matches!(record, Record::In(_)))
-            .count()
+        let mut count = 0;
+        // An index loop: a chain over the iterator, and one over the numbers, took more than twice the time.
+        for i in 0..self.store.len() {
+            if let Some((_, Record::In(_))) = self.store.at(i) {
+                count += 1;
+            }
+        }
+        count
     }
 
     /// The integral over the unit cube.

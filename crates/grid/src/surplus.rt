@@ -46,7 +46,8 @@ impl<'g, 'm, K: Kind> Grid<'g, 'm, K> {
         }
         let mut sum = self.ways(arrival, direction + 1, place, moves)?;
         let (left, right) = neighbours_in(direction, place);
-        for next in [left, right].into_iter().flatten() {
+        // A chain of the two, which makes no array.
+        for next in left.into_iter().chain(right) {
             sum = sum.sum(self.ways(arrival, direction + 1, next, moves + 1)?)?;
         }
         Some(sum)
