@@ -67,6 +67,15 @@ nth_held (x ∷ es) [] (suc n) i s l a e = cc
 nth_held (x ∷ es) (t ∷ ss) (suc n) zero s l a e = cc
 nth_held (x ∷ es) (t ∷ ss) (suc n) (suc i) s l a e = nth_held es ss n i s (omega arith) (omega arith) e
 
+-- so what the record of that number gives is the item
+pub item_at : {S : Type 0} (es : List Entry) (ss : List S) (used i j k : ℕ) (d : S) → j ≡ i → k ≡ i → i < used → used ≤ length es → used ≤ length ss
+    → Some (point_at es j, get_or ss k d) ≡ slice_get (held es ss used) i
+item_at es ss used i j k d ej ek l a b =
+    let e = nth_held es ss used i (get_or ss i d) l a (slice_get-get_or ss i d (omega arith)) in
+    let p : point_at es j ≡ point_at es i = ap (point_at es) ej in
+    let s : get_or ss k d ≡ get_or ss i d = ap (λ (m : ℕ). get_or ss m d) ek in
+    cc
+
 -- the record of an item
 pub record_of : {S : Type 0} (es : List Entry) (ss : List S) (used i p : ℕ) (s : S) → slice_get (held es ss used) i ≡ Some (p, s)
     → Place es used p i × (slice_get ss i ≡ Some s)
