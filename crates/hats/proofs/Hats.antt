@@ -1,5 +1,5 @@
 -- Exponents and numerators, one direction after the other, and how large they can be.
-use Rattle.std.proofs.Common.{◌≡◌, ℕ, zero, suc, ◌+◌, ◌-◌, ◌*◌, ◌^◌, ◌≤◌, Bool, true, eqb, List, [], ◌∷◌, length, take, drop, map, sum_by, sym, refl, ap, ◌∙◌, subst, mul-le-mul, arith, pow-add}
+use Rattle.std.proofs.Common.{◌≡◌, ℕ, zero, suc, ◌+◌, ◌-◌, ◌*◌, ◌^◌, ◌≤◌, Bool, true, eqb, List, [], ◌∷◌, length, take, drop, map, sum_by, sym, refl, ap, ◌∙◌, subst, le_trans, mul-le-mul, arith, pow_mono, pow-add}
 use lib.Count.{trailing_le}
 use Rattle.std.proofs.lemmas.Bool.{and_parts, eqb-true}
 use Rattle.std.proofs.lemmas.List.Sums.{sum_by-cons}
@@ -34,6 +34,18 @@ hats_at_most_one (suc d) n (k ∷ ks) (j ∷ js) =
 pub exponent_small : (k : ℕ) → zero_border.exponent k ≤ 8
 unfolding zero_border coordinate.zeros
 exponent_small k = trailing_le 8 k
+
+-- so those of d coordinates together are at most 8 * d, and the numerators of at most four multiplied at most 2^32
+pub exponents_small : (d : ℕ) (p : List ℕ) → exponents (axes d) p ≤ 8 * d
+unfolding directions total
+exponents_small zero p = omega arith
+exponents_small (suc d) [] = omega arith
+exponents_small (suc d) (k ∷ ks) = omega (arith, exponent_small k, exponents_small d ks)
+
+pub numerators_small : (d : ℕ) (p y : List ℕ) → d ≤ 4 → numerators (axes d) p y ≤ 2 ^ 32
+numerators_small d p y h =
+    let few : exponents (axes d) p ≤ 32 = omega (arith, exponents_small d p) in
+    le_trans (hats_at_most_one d 0 p y) (pow_mono few)
 
 -- over used directions alone they are a sum and a product
 pub exponents_used : (d : ℕ) (p : List ℕ) → d ≤ length p → exponents (axes d) (take d p) ≡ sum_by zero_border.exponent (take d p)

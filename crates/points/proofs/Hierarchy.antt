@@ -14,6 +14,11 @@ inner_bounds k e = grind (arith, nat_tests)
 pub bounds_inner : (k : ℕ) → (1 ≤ k) × (k ≤ 127) → inner k ≡ true
 bounds_inner k b = grind (arith, nat_tests)
 
+-- no level is above 7
+pub level_le : (k : ℕ) → level k ≤ 7
+unfolding level
+level_le k = omega arith
+
 -- a claim that holds of each inner coordinate
 module _ (f : ℕ → Claim) (t : tests 128 (λ k. given (inner k) (f k)) ≡ true) where
   inside : (k : ℕ) → inner k ≡ true → Means (f k)
